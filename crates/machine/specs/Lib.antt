@@ -1,0 +1,5 @@
+pub mod Check
+pub mod Machine
+pub mod History
+pub mod Replay
+pub mod Loop

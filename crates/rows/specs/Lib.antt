@@ -1,0 +1,4 @@
+pub mod Bytes
+pub mod Stores
+pub mod Walk
+pub mod Mask
