@@ -1,7 +1,7 @@
 -- The tests of a step: the first that fails decides the code. Assumes nothing.
 use mathlib.Core.Path.{_≡_}
 use mathlib.Core.Bool.{Bool, true, false, cond, _&&_}
-use mathlib.Core.List.{List, [], _∷_}
+use mathlib.Core.List.{List, [], _∷_, _++_}
 use Prim.Native.Nat.{ℕ}
 use lib.Dec.{leb}
 
@@ -27,3 +27,13 @@ All (c ∷ cs) = (c .holds ≡ true) × All cs
 abbrev pub rises : ℕ → List Check → Bool
 rises c [] = true
 rises c (d ∷ ds) = leb c (d .code) && rises (d .code) ds
+
+-- the tests cs refuse with the code c: the tests before hold, and a test with this code fails
+pub record FailsAt (cs : List Check) (c : ℕ) : Type 0 where
+  pub before : List Check
+  pub test : Check
+  pub behind : List Check
+  pub split : cs ≡ before ++ (test ∷ behind)
+  pub held : All before
+  pub fails : test .holds ≡ false
+  pub code : test .code ≡ c

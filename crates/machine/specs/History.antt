@@ -1,7 +1,10 @@
 -- What an accepted history is, and counting in it. Demands are said of histories, never of states. Assumes nothing.
-use mathlib.Core.Bool.{Bool}
-use mathlib.Core.List.{List, [], _∷_}
+use mathlib.Core.Path.{_≡_, refl}
+use mathlib.Core.Bool.{Bool, true, false}
+use mathlib.Core.List.{List, [], _∷_, _++_}
 use Prim.Native.Nat.{ℕ}
+use lib.Dec.{eqb}
+use borrow.Author.Tests.{eqb-true, eqb-false}
 use Rattle.rows.specs.Walk.{tick}
 use Rattle.machine.specs.Machine.{Machine, Accepted}
 
@@ -36,3 +39,28 @@ module _ {X E : Type 0} where
   abbrev pub logged# : (E → Bool) → List (Event X E) → ℕ
   logged# q [] = 0
   logged# q (e ∷ h) = in# q (e .wrote) (logged# q h)
+
+  -- a history read from its oldest step on: what was done, and what was logged
+  abbrev pub stepsOf : List (Event X E) → List X
+  stepsOf [] = []
+  stepsOf (e ∷ h) = stepsOf h ++ (e .did ∷ [])
+
+  abbrev pub logOf : List (Event X E) → List E
+  logOf [] = []
+  logOf (e ∷ h) = logOf h ++ e .wrote
+
+-- "is x": a test of one's own kind, of a type whose equality is decided
+abbrev pub holding : {P : Type 0} → Dec P → Bool
+holding (yes p) = true
+holding (no p) = false
+
+abbrev pub is : {A : Type 0} → Discrete A → A → A → Bool
+is D x y = holding (D y x)
+
+-- equality of numbers decided by eqb, so that "is x" computes at numerals
+abbrev pub eq-or-not : (m n : ℕ) (b : Bool) → eqb m n ≡ b → Dec (m ≡ n)
+eq-or-not m n true e = yes (eqb-true m n e)
+eq-or-not m n false e = no (eqb-false m n e)
+
+abbrev pub ℕ-dec : Discrete ℕ
+ℕ-dec m n = eq-or-not m n (eqb m n) refl

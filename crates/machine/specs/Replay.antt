@@ -7,7 +7,7 @@ use Prim.Native.Nat.{ℕ, _+_}
 use lib.Dec.{eqb}
 use lib.ListN.{length, take}
 use Rattle.machine.specs.Machine.{Machine, codeOf, Accepted}
-use Rattle.machine.specs.History.{Event, History, event}
+use Rattle.machine.specs.History.{History, event}
 
 pub record Replayed (m : Machine) : Type 0 where
   pub code : ℕ

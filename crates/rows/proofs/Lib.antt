@@ -1,2 +1,9 @@
+pub mod Cases
 pub mod Rows
+pub mod Row
+pub mod Bytes
 pub mod Stores
+pub mod Walks
+pub mod Masks
+pub mod Tables
+pub mod Settled

@@ -1,20 +1,86 @@
--- Stores at a moving place, over what is stored. Assumes nothing.
-use mathlib.Core.Path.{_≡_, refl, _∙_}
-use mathlib.Core.List.{List, [], _∷_, _++_}
-use Prim.Native.Nat.{ℕ, _+_}
-use native.Mathlib.Nat.{add-zero, add-assoc}
+-- Stores at a moving place, over what is stored, and what a writer that stores all or nothing has done. Assumes nothing.
+use mathlib.Core.Path.{_≡_, refl, sym, ap, _∙_}
+use mathlib.Core.List.{List, [], _∷_, _++_, append-assoc}
+use Prim.Native.Nat.{ℕ, _+_, _≤_, _<_}
+use native.Mathlib.Nat.{add-zero, zero-add, add-assoc}
+use native.Mathlib.Numerals.{add-one}
 use native.Mathlib.Omega.{arith}
-use lib.ListN.{length, set, length-set}
-use Rattle.rows.specs.Stores.{puts}
+use borrow.Author.Tests.{le-leb, lt-leb}
+use lib.ListN.{length, set, take, drop, length-append, length-set, length-drop}
+use lib.Seq.{sets, sets-eq, take-set-le, drop-set-lt}
+use Rattle.rows.specs.Stores.{over, puts, fitting, Laid}
 
-pub length-puts : {A : Type 0} (l : List A) (i : ℕ) (vs : List A) → length (puts l i vs) ≡ length l
-length-puts l i [] = refl
-length-puts l i (v ∷ vs) = length-puts (set l i v) (i + 1) vs ∙ length-set l i v
+-- ---- a run of stores
 
--- one run of stores after the other
-pub puts-append : {A : Type 0} (l : List A) (i : ℕ) (xs ys : List A) → puts l i (xs ++ ys) ≡ puts (puts l i xs) (i + length xs) ys
-puts-append l i [] ys = rw add-zero
-puts-append l i (x ∷ xs) ys = puts-append (set l i x) (i + 1) xs ys ∙ rw (add-assoc i 1 (length xs), one-more xs)
-  where
-    one-more : (zs : List _) → 1 + length zs ≡ length (x ∷ zs)
-    one-more zs = omega arith
+module _ {A : Type 0} where
+  pub length-puts : (l : List A) (i : ℕ) (vs : List A) → length (puts l i vs) ≡ length l
+  length-puts l i [] = refl
+  length-puts l i (v ∷ vs) = length-puts (set l i v) (i + 1) vs ∙ length-set l i v
+
+  -- one run of stores after the other
+  pub puts-append : (l : List A) (i : ℕ) (xs ys : List A) → puts l i (xs ++ ys) ≡ puts (puts l i xs) (i + length xs) ys
+  puts-append l i [] ys = rw add-zero
+  puts-append l i (x ∷ xs) ys = puts-append (set l i x) (i + 1) xs ys ∙ rw (add-assoc i 1 (length xs), one-more xs)
+    where
+      one-more : (zs : List _) → 1 + length zs ≡ length (x ∷ zs)
+      one-more zs = omega arith
+
+  -- the library counts the places by `suc`, where code adds 1
+  puts-sets : (l : List A) (i : ℕ) (vs : List A) → puts l i vs ≡ sets l i vs
+  puts-sets l i [] = refl
+  puts-sets l i (v ∷ vs) = puts-sets (set l i v) (i + 1) vs ∙ rw add-one
+
+  -- the whole list after stores that all fall into it
+  pub puts-eq : (l : List A) (i : ℕ) (vs : List A) → i + length vs ≤ length l → puts l i vs ≡ take i l ++ (vs ++ drop (i + length vs) l)
+  puts-eq l i vs h = puts-sets l i vs ∙ sets-eq vs l i h ∙ append-assoc (take i l) vs (drop (i + length vs) l)
+
+  pub puts-over : (l vs : List A) → length vs ≤ length l → puts l 0 vs ≡ over vs l
+  puts-over l vs h = puts-eq l 0 vs (rw zero-add h) ∙ rw zero-add
+
+  -- what stands in front of the stores is kept
+  pub take-before : (n : ℕ) (l : List A) (i : ℕ) (vs : List A) → n ≤ i → take n (puts l i vs) ≡ take n l
+  take-before n l i [] h = refl
+  take-before n l i (v ∷ vs) h = take-before n (set l i v) (i + 1) vs (omega arith) ∙ take-set-le n l i v h
+
+  pub take-puts : (l : List A) (i : ℕ) (vs : List A) → take i (puts l i vs) ≡ take i l
+  take-puts l i vs = take-before i l i vs (omega arith)
+
+  -- and so is what stands behind them
+  pub drop-behind : (n : ℕ) (l : List A) (i : ℕ) (vs : List A) → i + length vs ≤ n → drop n (puts l i vs) ≡ drop n l
+  drop-behind n l i [] h = refl
+  drop-behind n l i (v ∷ vs) h = drop-behind n (set l i v) (i + 1) vs (omega arith) ∙ drop-set-lt n l i v (omega arith)
+
+  pub drop-puts : (l : List A) (i : ℕ) (vs : List A) → drop (i + length vs) (puts l i vs) ≡ drop (i + length vs) l
+  drop-puts l i vs = drop-behind (i + length vs) l i vs (omega arith)
+
+  pub length-over : (vs l : List A) → length vs ≤ length l → length (over vs l) ≡ length l
+  length-over vs l h = simp (length-append, length-drop) (omega arith)
+
+-- ---- all or nothing
+
+module _ (l : List ℕ) (i : ℕ) (bs : List ℕ) where
+  pub fitting-whole : i + length bs ≤ length l → fitting l i bs ≡ bs
+  unfolding fitting
+  fitting-whole h = rw (le-leb (i + length bs) (length l) h)
+
+  pub fitting-none : length l < i + length bs → fitting l i bs ≡ []
+  unfolding fitting
+  fitting-none h = rw (lt-leb (i + length bs) (length l) h)
+
+  module _ (r : ℕ) (l′ : List ℕ) where
+    -- what a writer has done, by whether it fits
+    pub laid-whole : i + length bs ≤ length l → Laid l i bs r l′ → (r ≡ i + length bs) × (l′ ≡ puts l i bs)
+    laid-whole h d = let e = fitting-whole h in (rw e at (d .place), rw e at (d .bytes))
+
+    pub laid-none : length l < i + length bs → Laid l i bs r l′ → (r ≡ i) × (l′ ≡ l)
+    laid-none h d = let e = fitting-none h in ((rw e at (d .place)) ∙ add-zero i, rw e at (d .bytes))
+
+    pub laid-length : Laid l i bs r l′ → length l′ ≡ length l
+    laid-length d = ap length (d .bytes) ∙ length-puts l i (fitting l i bs)
+
+    -- and how a writer shows it
+    pub whole-laid : i + length bs ≤ length l → r ≡ i + length bs → l′ ≡ puts l i bs → Laid l i bs r l′
+    whole-laid h p b = let e = fitting-whole h in record { place = rw e p; bytes = rw e b }
+
+  pub none-laid : length l < i + length bs → Laid l i bs i l
+  none-laid h = let e = fitting-none h in record { place = rw e (sym (add-zero i)); bytes = rw e }

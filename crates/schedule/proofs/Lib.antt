@@ -1,0 +1,4 @@
+pub mod Measures
+pub mod Table
+pub mod Past
+pub mod Counts

@@ -1,0 +1,49 @@
+-- The code's table of step lengths says what the widths say: one computed test over the whole table. Assumes nothing.
+use mathlib.Core.Path.{_≡_, refl}
+use mathlib.Core.Bool.{Bool, true}
+use mathlib.Core.List.{List, [], _∷_}
+use Prim.Native.Nat.{ℕ, _≤_, _<_}
+use native.Mathlib.Omega.{arith}
+use borrow.Author.Tests.{eqb-true, leb-true}
+use lib.Dec.{eqb, leb}
+use lib.ListN.{length, getD, List·getD-eq-default}
+use Rattle.rows.specs.Walk.{every}
+use Rattle.rows.proofs.Walks.{every-at}
+use Rattle.rows.proofs.Tables.{everyRow, table-at}
+use Rattle.schedule.specs.Widths.{widths, widthsOf, lengthOf}
+
+-- the table as it stands in src/lengths.rt
+abbrev lengths : List (List ℕ)
+lengths =
+    (0 ∷ 0 ∷ 0 ∷ 0 ∷ 0 ∷ 0 ∷ 0 ∷ 0 ∷ 0 ∷ [])
+    ∷ (0 ∷ 10 ∷ 2 ∷ 1 ∷ 1 ∷ 1 ∷ 9 ∷ 1 ∷ 1 ∷ [])
+    ∷ (0 ∷ 1 ∷ 1 ∷ 1 ∷ 5 ∷ 2 ∷ 2 ∷ 6 ∷ 0 ∷ [])
+    ∷ (0 ∷ 5 ∷ 1 ∷ 1 ∷ 5 ∷ 0 ∷ 0 ∷ 0 ∷ 0 ∷ [])
+    ∷ (0 ∷ 2 ∷ 2 ∷ 2 ∷ 0 ∷ 0 ∷ 0 ∷ 0 ∷ 0 ∷ [])
+    ∷ []
+
+abbrev right : ℕ → ℕ → ℕ → Bool
+right k t x = eqb x (lengthOf k t)
+
+computed : every (everyRow right 9) 0 lengths ≡ true
+unfolding widthsOf widths
+computed = refl
+
+pub in-table : (k t : ℕ) → k < 5 → t < 9 → getD (getD lengths k []) t 0 ≡ lengthOf k t
+in-table k t h l = eqb-true (getD (getD lengths k []) t 0) (lengthOf k t) (table-at right 9 lengths 0 computed k t h l)
+
+-- what the table does not have is no step
+pub no-kind : (k t : ℕ) → 5 ≤ k → 0 ≡ lengthOf k t
+unfolding widthsOf widths
+no-kind k t h = rw (List·getD-eq-default widths [] h)
+
+within : every (λ (k : ℕ) (row : List (List ℕ)). leb (length row) 9) 0 widths ≡ true
+unfolding widths
+within = refl
+
+pub no-tag : (k t : ℕ) → k < 5 → 9 ≤ t → 0 ≡ lengthOf k t
+unfolding widthsOf widths
+no-tag k t h l =
+    let short : length (getD widths k []) ≤ 9 = leb-true _ _ (every-at (λ (k : ℕ) (row : List (List ℕ)). leb (length row) 9) [] widths within k h) in
+    let past : length (getD widths k []) ≤ t = omega arith in
+    rw (List·getD-eq-default (getD widths k []) [] past)

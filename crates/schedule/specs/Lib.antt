@@ -1,0 +1,9 @@
+pub mod Limits
+pub mod Codes
+pub mod Widths
+pub mod Language
+pub mod Spelling
+pub mod Reading
+pub mod Front
+pub mod Counting
+pub mod Finding

@@ -1,0 +1,56 @@
+// The one table of step lengths, and how far the step at a place of a file reaches.
+ghost use mathlib.Core.Path.{_≡_};
+ghost use Rattle.schedule.specs.Widths.{lengthOf};
+ghost use Rattle.schedule.specs.Reading.{measuredAt};
+
+// A row for each kind and a column for each tag, both from 0 on; 0 where there is no such step.
+const LENGTHS: [[u8; 9]; 5] = [
+    [0, 0, 0, 0, 0, 0, 0, 0, 0],
+    [0, 10, 2, 1, 1, 1, 9, 1, 1],
+    [0, 1, 1, 1, 5, 2, 2, 6, 0],
+    [0, 5, 1, 1, 5, 0, 0, 0, 0],
+    [0, 2, 2, 2, 0, 0, 0, 0, 0],
+];
+
+// The bytes after a step's length byte, 0 where there is no such step.
+pub fn length_of(kind: u8, tag: u8) -> u8
+    ensures { λ r. ⌜ r ≡ lengthOf kind tag ⌝ }
+{
+    if kind < 5 {
+        if tag < 9 {
+            let row = kind as usize;
+            let column = tag as usize;
+            return LENGTHS[row][column];
+        }
+    }
+    0
+}
+
+// What stands at a place: nothing more, a step that is none, or a step and the place after it.
+pub enum Measured {
+    End,
+    Broken,
+    Whole { next: usize },
+}
+
+pub fn measure(kind: u8, file: &[u8], at: usize) -> Measured
+    ensures { λ r. ⌜ r ≡ measuredAt kind (now (file .entry)) at ⌝ }
+{
+    if file.len() <= at {
+        return Measured::End;
+    }
+    let n = file[at];
+    let b = at + 1;
+    if n == 0 {
+        return Measured::Broken;
+    }
+    let size = n as usize;
+    if file.len() - b < size {
+        return Measured::Broken;
+    }
+    if length_of(kind, file[b]) == n {
+        Measured::Whole { next: b + size }
+    } else {
+        Measured::Broken
+    }
+}

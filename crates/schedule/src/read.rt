@@ -1,0 +1,180 @@
+// The step at a place of a file: of a known kind, or of the kind asked for with the place after it.
+use super::kinds;
+use super::lengths;
+use super::lengths::Measured;
+use super::steps::CountingStep;
+use super::steps::FlagStep;
+use super::steps::FlatStep;
+use super::steps::LockStep;
+use super::steps::Step;
+ghost use mathlib.Core.Path.{_≡_};
+ghost use Rattle.schedule.specs.Language.{stepAt};
+ghost use Rattle.schedule.specs.Spelling.{flat, lock, counting, flag};
+ghost use Rattle.schedule.specs.Finding.{foundAt};
+
+// The step whose length byte stands at a place. Nothing is asked of the place: a number that the file does not have is read as 0, and an
+// unknown tag as some step. What was measured whole is read as it stands.
+pub fn flat_step(file: &[u8], at: usize) -> FlatStep
+    ensures { λ r. ⌜ r ≡ stepAt flat (now (file .entry)) at ⌝ }
+{
+    if file.len() <= at {
+        return FlatStep::CombinerGoToCollecting;
+    }
+    let p = at + 1;
+    let tag = rows::get1(file, p);
+    let a = p + 1;
+    if tag == 1 {
+        let j = rows::get1(file, a);
+        let b = a + 1;
+        let rid = rows::get4(file, b);
+        let c = b + 4;
+        let req = rows::get4(file, c);
+        return FlatStep::ClientSend { j, rid, req };
+    }
+    if tag == 2 {
+        let j = rows::get1(file, a);
+        return FlatStep::ClientRecv { j };
+    }
+    if tag == 3 {
+        return FlatStep::CombinerRecv;
+    }
+    if tag == 4 {
+        return FlatStep::CombinerSkip;
+    }
+    if tag == 5 {
+        return FlatStep::CombinerGoToResponding;
+    }
+    if tag == 6 {
+        let rid = rows::get4(file, a);
+        let b = a + 4;
+        let resp = rows::get4(file, b);
+        return FlatStep::CombinerSend { rid, resp };
+    }
+    if tag == 7 {
+        return FlatStep::CombinerSendSkip;
+    }
+    FlatStep::CombinerGoToCollecting
+}
+
+pub fn lock_step(file: &[u8], at: usize) -> LockStep
+    ensures { λ r. ⌜ r ≡ stepAt lock (now (file .entry)) at ⌝ }
+{
+    if file.len() <= at {
+        return LockStep::ExcStart;
+    }
+    let p = at + 1;
+    let tag = rows::get1(file, p);
+    let a = p + 1;
+    if tag == 2 {
+        return LockStep::ExcCheckCount;
+    }
+    if tag == 3 {
+        return LockStep::ExcFinish;
+    }
+    if tag == 4 {
+        let t = rows::get4(file, a);
+        return LockStep::ExcRelease { t };
+    }
+    if tag == 5 {
+        let r = rows::get1(file, a);
+        return LockStep::SharedStart { r };
+    }
+    if tag == 6 {
+        let r = rows::get1(file, a);
+        return LockStep::SharedFinish { r };
+    }
+    if tag == 7 {
+        let r = rows::get1(file, a);
+        let b = a + 1;
+        let t = rows::get4(file, b);
+        return LockStep::SharedRelease { r, t };
+    }
+    LockStep::ExcStart
+}
+
+pub fn counting_step(file: &[u8], at: usize) -> CountingStep
+    ensures { λ r. ⌜ r ≡ stepAt counting (now (file .entry)) at ⌝ }
+{
+    if file.len() <= at {
+        return CountingStep::NewRef;
+    }
+    let p = at + 1;
+    let tag = rows::get1(file, p);
+    let a = p + 1;
+    if tag == 1 {
+        let t = rows::get4(file, a);
+        return CountingStep::WriteableToReadable { t };
+    }
+    if tag == 2 {
+        return CountingStep::ReadableToWriteable;
+    }
+    if tag == 4 {
+        let t = rows::get4(file, a);
+        return CountingStep::DeleteRef { t };
+    }
+    CountingStep::NewRef
+}
+
+pub fn flag_step(file: &[u8], at: usize) -> FlagStep
+    ensures { λ r. ⌜ r ≡ stepAt flag (now (file .entry)) at ⌝ }
+{
+    if file.len() <= at {
+        return FlagStep::Begin { k: 0 };
+    }
+    let p = at + 1;
+    let tag = rows::get1(file, p);
+    let a = p + 1;
+    if tag == 1 {
+        let k = rows::get1(file, a);
+        return FlagStep::Begin { k };
+    }
+    if tag == 2 {
+        let k = rows::get1(file, a);
+        return FlagStep::Move { k };
+    }
+    if tag == 3 {
+        let k = rows::get1(file, a);
+        return FlagStep::Read { k };
+    }
+    FlagStep::Begin { k: 0 }
+}
+
+// What stands at a place of a file of a kind.
+pub enum Found {
+    End,
+    Broken,
+    Whole { step: Step, next: usize },
+}
+
+pub fn read(kind: u8, file: &[u8], at: usize) -> Found
+    ensures { λ r. ⌜ r ≡ foundAt kind (now (file .entry)) at ⌝ }
+{
+    match lengths::measure(kind, file, at) {
+        Measured::End => Found::End,
+        Measured::Broken => Found::Broken,
+        Measured::Whole { next } => {
+            if kind == kinds::FLAT {
+                return Found::Whole {
+                    step: Step::Flat(flat_step(file, at)),
+                    next,
+                };
+            }
+            if kind == kinds::LOCK {
+                return Found::Whole {
+                    step: Step::Lock(lock_step(file, at)),
+                    next,
+                };
+            }
+            if kind == kinds::COUNTING {
+                return Found::Whole {
+                    step: Step::Counting(counting_step(file, at)),
+                    next,
+                };
+            }
+            Found::Whole {
+                step: Step::Flag(flag_step(file, at)),
+                next,
+            }
+        }
+    }
+}
