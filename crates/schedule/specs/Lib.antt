@@ -7,3 +7,6 @@ pub mod Reading
 pub mod Front
 pub mod Counting
 pub mod Finding
+pub mod Schedule
+pub mod Canonical
+pub mod Given
