@@ -3,3 +3,5 @@ pub mod Machine
 pub mod History
 pub mod Replay
 pub mod Loop
+pub mod Multiset
+pub mod Single

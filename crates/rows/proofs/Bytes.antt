@@ -1,18 +1,17 @@
 -- Numbers and the bytes that spell them, each law once over the width; and the bytes of a list from a place on. Assumes nothing.
-use mathlib.Core.Path.{_≡_, refl, sym, ap, _∙_}
-use mathlib.Core.Bool.{true, false}
+use mathlib.Core.Path.{_≡_, refl, ap, _∙_}
 use mathlib.Core.List.{List, [], _∷_, _++_, append-nil}
 use Prim.Native.Nat.{ℕ, zero, suc, _+_, _*_, _/_, _%_, _^_, _≤_, _<_}
-use native.Mathlib.Nat.{add-zero, zero-add, one-mul, mul-assoc, pow-suc, pow-succ', mod-lt, mul-le-mul-right, lt-of-lt-of-le}
+use native.Mathlib.Nat.{add-zero, zero-add, mul-assoc, pow-suc, pow-succ', mod-lt, mul-le-mul-right, lt-of-lt-of-le}
 use native.Mathlib.Omega.{arith}
 use borrow.Author.Tests.{le-leb, lt-leb, leb-true, leb-false}
 use lib.Arith.{digits-div, digits-mod}
 use lib.Dec.{leb, lit<}
 use lib.ListN.{length, getD, take, drop, length-append, length-take, length-drop, take-append-drop, List·getD-eq-default}
-use lib.Seq.{getD-take, getD-drop, take-append-seam, drop-append-seam, drop-drop}
+use lib.Seq.{getD-drop, take-append-seam, drop-append-seam, drop-drop}
 use Rattle.rows.specs.Bytes.{Bytes, onwards, number, before, big, bytesAt, numberAt}
 use Rattle.rows.proofs.Cases.{on}
-use Rattle.rows.proofs.Rows.{drop-one, drop-end}
+use Rattle.rows.proofs.Rows.{drop-one}
 
 -- ---- lists of bytes
 
@@ -137,7 +136,8 @@ pub numberAt-outside : (s : List ℕ) (at w : ℕ) → length s < at + w → 0 �
 numberAt-outside s at w h = rw (bytesAt-outside s at w h)
 
 -- the first of the bytes to read, and the others from the next place j on
-pub take-one : {A : Type 0} (s : List A) (i w : ℕ) (d : A) (j : ℕ) → j ≡ i + 1 → i < length s → take (suc w) (drop i s) ≡ getD s i d ∷ take w (drop j s)
+pub take-one : {A : Type 0} (s : List A) (i w : ℕ) (d : A) (j : ℕ) → j ≡ i + 1 → i < length s
+    → take (suc w) (drop i s) ≡ getD s i d ∷ take w (drop j s)
 take-one s i w d j e h = rw (e, drop-one s i d h)
 
 -- a byte is the entry there, and 0 outside

@@ -1,5 +1,5 @@
 -- A row with one entry written anew: what is read of it, and how many entries pass a test. Assumes nothing.
-use mathlib.Core.Path.{_≡_, refl}
+use mathlib.Core.Path.{_≡_}
 use mathlib.Core.Bool.{Bool, true, false, cond}
 use mathlib.Core.List.{List, [], _∷_}
 use Prim.Native.Nat.{ℕ, zero, suc, _+_, _≤_, _<_}
@@ -19,7 +19,8 @@ module _ {A : Type 0} where
       (λ e. rw e (getD-set-other l i j a d (eqb-false j i e)))
 
   -- what holds of the new entry, and of each other one, holds of entry j
-  pub row-case : (P : A → Type 0) (l : List A) (i j : ℕ) (a d : A) → i < length l → (j ≡ i → P a) → (¬ (j ≡ i) → P (getD l j d)) → P (getD (set l i a) j d)
+  pub row-case : (P : A → Type 0) (l : List A) (i j : ℕ) (a d : A) → i < length l → (j ≡ i → P a) → (¬ (j ≡ i) → P (getD l j d))
+      → P (getD (set l i a) j d)
   row-case P l i j a d h f g =
       rw (row l i j a d)
       (on (eqb j i) (λ b. rw b (f (eqb-true j i b))) (λ b. rw b (g (eqb-false j i b))))

@@ -1,14 +1,16 @@
 -- Stores at a moving place, over what is stored, and what a writer that stores all or nothing has done. Assumes nothing.
 use mathlib.Core.Path.{_≡_, refl, sym, ap, _∙_}
 use mathlib.Core.List.{List, [], _∷_, _++_, append-assoc}
-use Prim.Native.Nat.{ℕ, _+_, _≤_, _<_}
+use Prim.Native.Nat.{ℕ, _+_, _^_, _≤_, _<_}
 use native.Mathlib.Nat.{add-zero, zero-add, add-assoc}
 use native.Mathlib.Numerals.{add-one}
 use native.Mathlib.Omega.{arith}
 use borrow.Author.Tests.{le-leb, lt-leb}
 use lib.ListN.{length, set, take, drop, length-append, length-set, length-drop}
-use lib.Seq.{sets, sets-eq, take-set-le, drop-set-lt}
+use lib.Seq.{sets, sets-eq, take-set-le, drop-set-lt, length-take-le}
+use Rattle.rows.specs.Bytes.{number, big, bytesAt, numberAt}
 use Rattle.rows.specs.Stores.{over, puts, fitting, Laid}
+use Rattle.rows.proofs.Bytes.{spelled, length-big, bytesAt-at}
 
 -- ---- a run of stores
 
@@ -84,3 +86,26 @@ module _ (l : List ℕ) (i : ℕ) (bs : List ℕ) where
 
   pub none-laid : length l < i + length bs → Laid l i bs i l
   none-laid h = let e = fitting-none h in record { place = rw e (sym (add-zero i)); bytes = rw e }
+
+-- one writer after the other, where both fit
+pub laid-then : (l : List ℕ) (i : ℕ) (xs ys : List ℕ) (r : ℕ) (m : List ℕ) (q : ℕ) (n : List ℕ) → i + length (xs ++ ys) ≤ length l
+    → Laid l i xs r m → Laid m r ys q n → Laid l i (xs ++ ys) q n
+laid-then l i xs ys r m q n h d e =
+    let both = length-append xs ys in
+    let same = laid-length l i xs r m d in
+    let a = laid-whole l i xs r m (omega arith) d in
+    let b = laid-whole m r ys q n (omega arith) e in
+    whole-laid l i (xs ++ ys) q n h (omega arith) (b .1 ∙ rw (a .0, a .1) (sym (puts-append l i xs ys)))
+
+-- ---- what was written is read back
+
+module _ (l : List ℕ) (i : ℕ) where
+  pub bytes-back : (bs : List ℕ) → i + length bs ≤ length l → bytesAt (puts l i bs) i (length bs) ≡ bs
+  bytes-back bs h =
+      let front : i ≡ length (take i l) = sym (length-take-le i l (omega arith)) in
+      rw (puts-eq l i bs h) (bytesAt-at (take i l) bs (drop (i + length bs) l) i (length bs) front refl)
+
+  pub number-back : (w n : ℕ) → n < 256 ^ w → i + w ≤ length l → numberAt (puts l i (big w n)) i w ≡ n
+  number-back w n small h =
+      let long = length-big w n in
+      ap number (rw long at (bytes-back (big w n) (omega arith))) ∙ spelled w n small

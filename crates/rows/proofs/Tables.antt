@@ -1,5 +1,5 @@
 -- A rule of a whole table of rows, proved at each entry by one test that computes. Assumes nothing.
-use mathlib.Core.Path.{_≡_, refl}
+use mathlib.Core.Path.{_≡_}
 use mathlib.Core.Bool.{Bool, true, _&&_}
 use mathlib.Core.List.{List, []}
 use Prim.Native.Nat.{ℕ, _<_}
@@ -16,7 +16,8 @@ module _ {A : Type 0} (f : ℕ → ℕ → A → Bool) (n : ℕ) where
   everyRow k row = eqb (length row) n && every (f k) 0 row
 
   -- the test that computes, `refl` where the table is written out, and what it says of the entry at k and t
-  pub table-at : (rows : List (List A)) (d : A) → every everyRow 0 rows ≡ true → (k t : ℕ) → k < length rows → t < n → f k t (getD (getD rows k []) t d) ≡ true
+  pub table-at : (rows : List (List A)) (d : A) → every everyRow 0 rows ≡ true → (k t : ℕ) → k < length rows → t < n
+      → f k t (getD (getD rows k []) t d) ≡ true
   table-at rows d e k t h l =
       let row = getD rows k [] in
       let b = both-true (eqb (length row) n) (every (f k) 0 row) (every-at everyRow [] rows e k h) in

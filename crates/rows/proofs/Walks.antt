@@ -1,7 +1,6 @@
--- The turns of a loop over a row or its first entries, each once over the row's length. The invariant says what is left to do: the walk of
--- what is left, from what the loop holds now, is the walk of all. And laws of whole walks. Assumes nothing.
+-- The turns of a loop over a row or its first entries, and laws of whole walks, each once over the row's length. Assumes nothing.
 use mathlib.Core.Path.{_≡_, refl, sym, ap, _∙_}
-use mathlib.Core.Bool.{Bool, true, false, _&&_}
+use mathlib.Core.Bool.{Bool, true, false}
 use mathlib.Core.List.{List, [], _∷_, _++_, append-assoc}
 use Prim.Native.Nat.{ℕ, zero, suc, _+_, _*_, _≤_, _<_, suc-le-suc}
 use native.Mathlib.Nat.{add-zero, zero-add, add-assoc, suc-mul, zero-mul, le-of-suc-le-suc, not-suc-le-zero}
@@ -14,6 +13,9 @@ use Rattle.rows.proofs.Rows.{drop-one, drop-end, first-one, first-none}
 use Rattle.rows.proofs.Stores.{puts-append}
 
 -- ---- the turns of a loop over a row
+
+-- The invariant says what is left to do: the walk of what is left of the row, from what the loop holds now, is the walk of all of it. So a turn
+-- takes one entry off, and at the end nothing is left and the loop holds the answer.
 
 module _ {A : Type 0} (f : ℕ → A → Bool) (xs : List A) (d : A) (i : ℕ) (r : Bool) (inv : every f i (drop i xs) ≡ r) where
   pub every-more : i < length xs → f i (getD xs i d) ≡ true → every f (i + 1) (drop (i + 1) xs) ≡ r

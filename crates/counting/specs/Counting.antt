@@ -1,0 +1,64 @@
+-- The counting machine as document 01 has it: a step's tests, the state after it, what it logs. Assumes nothing.
+use Prim.Native.Nat.{ℕ, _+_, _-_}
+use mathlib.Core.Path.{_≡_}
+use mathlib.Core.Bool.{Bool, true, false, cond, not}
+use mathlib.Core.List.{List, [], _∷_}
+use lib.Dec.{T, eqb, ltb}
+use Rattle.machine.specs.Check.{Check, need, first, rises}
+use Rattle.machine.specs.Machine.{Machine, codeOf}
+use Rattle.schedule.specs.Codes as code
+use Rattle.schedule.specs.Limits as limit
+use Rattle.schedule.specs.declared.steps.CountingStep.{CountingStep}
+use Rattle.schedule.specs.declared.steps.CountingStep.the-variants.{WriteableToReadable, ReadableToWriteable, NewRef, DeleteRef}
+use Rattle.counting.specs.declared.state.State.{State}
+use Rattle.counting.specs.declared.entry.Entry.{Entry}
+use Rattle.counting.specs.declared.entry.Entry.the-variants.{Withdrawn, Granted}
+use Rattle.counting.specs.declared.moves.Moved.{Moved}
+
+-- nothing stored, no counter, no reference
+abbrev pub freshState : State
+freshState = record { t = 0; count = 0; refs = 0; present = false }
+
+-- writeable_to_readable needs no counter; the others need one. delete_ref takes off that very reference
+abbrev pub tests : State → CountingStep → List Check
+tests s (WriteableToReadable t) = need code.phase (not (s .present)) ∷ []
+tests s ReadableToWriteable = need code.phase (s .present) ∷ need code.count (eqb (s .count) 0) ∷ []
+tests s NewRef = need code.phase (s .present) ∷ need code.full (ltb (s .count) limit.counter) ∷ []
+tests s (DeleteRef t) = need code.phase (s .present) ∷ need code.missing (ltb 0 (s .refs)) ∷ need code.missing (eqb t (s .t)) ∷ []
+
+abbrev pub next : State → CountingStep → State
+next s (WriteableToReadable t) = record { t = t; count = 0; refs = s .refs; present = true }
+next s ReadableToWriteable = record { t = 0; count = 0; refs = s .refs; present = false }
+next s NewRef = record { t = s .t; count = s .count + 1; refs = s .refs + 1; present = s .present }
+next s (DeleteRef t) = record { t = s .t; count = s .count - 1; refs = s .refs - 1; present = s .present }
+
+-- new_ref logs the value; readable_to_writeable logs the withdrawn value
+abbrev pub logs : State → CountingStep → List Entry
+logs s (WriteableToReadable t) = []
+logs s ReadableToWriteable = Withdrawn (s .t) ∷ []
+logs s NewRef = Granted (s .t) ∷ []
+logs s (DeleteRef t) = []
+
+pub rising : (s : State) (x : CountingStep) → T (rises 1 (tests s x))
+rising s (WriteableToReadable t) = tt
+rising s ReadableToWriteable = tt
+rising s NewRef = tt
+rising s (DeleteRef t) = tt
+
+abbrev pub counting : Machine
+counting = record { State = State; Step = CountingStep; Entry = Entry; tests = tests; next = next; logs = logs; rising = rising }
+
+-- ---------- the transitions on any state, also one that no history leads to
+
+-- the counters that the step moves can be moved: so in every sound state
+abbrev pub movable : State → CountingStep → Bool
+movable s (WriteableToReadable t) = true
+movable s ReadableToWriteable = true
+movable s NewRef = ltb (s .refs) limit.counter
+movable s (DeleteRef t) = ltb 0 (s .count)
+
+abbrev pub moved : State → CountingStep → Moved
+moved s x =
+    cond (eqb (codeOf counting s x) 0)
+    (cond (movable s x) (record { state = next s x; code = 0 }) (record { state = s; code = code.unsound }))
+    (record { state = s; code = codeOf counting s x })

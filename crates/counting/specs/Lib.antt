@@ -1,0 +1,4 @@
+pub mod Source
+pub mod Counting
+pub mod Sound
+pub mod Image

@@ -1,0 +1,58 @@
+// The state of the counting machine: fresh, sound, its image.
+use schedule::limits;
+ghost use mathlib.Core.Path.{_≡_};
+ghost use Rattle.rows.specs.Stores.{Laid};
+ghost use Rattle.counting.specs.Counting.{freshState};
+ghost use Rattle.counting.specs.Sound.{sound};
+ghost use Rattle.counting.specs.Image.{imageBytes};
+
+// The stored value and its counter are there or not together, so one flag serves both. All references carry `t`.
+pub struct State {
+    pub t: u32,
+    pub count: u8,
+    pub refs: u8,
+    pub present: bool,
+}
+
+pub fn fresh() -> State
+    ensures { λ r. ⌜ r ≡ freshState ⌝ }
+{
+    State {
+        t: 0,
+        count: 0,
+        refs: 0,
+        present: false,
+    }
+}
+
+pub fn is_sound(s: State) -> bool
+    ensures { λ r. ⌜ r ≡ sound s ⌝ }
+{
+    if s.present {
+        if limits::COUNTER < s.count {
+            return false;
+        }
+        return s.refs == s.count;
+    }
+    if s.t != 0 {
+        return false;
+    }
+    if s.count != 0 {
+        return false;
+    }
+    s.refs == 0
+}
+
+// The image at the front of the buffer, or nothing where it does not fit; the answer is its length.
+pub fn image(s: State, out: &mut [u8]) -> usize
+    ensures { λ r. ⌜ Laid (now (out .entry)) 0 (imageBytes s) r (now (out .exit)) ⌝ }
+{
+    if out.len() < 7 {
+        return 0;
+    }
+    out[0] = s.present as u8;
+    rows::put4(out, 1, s.t);
+    out[5] = s.count;
+    out[6] = s.refs;
+    7
+}
