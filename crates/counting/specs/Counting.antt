@@ -1,9 +1,9 @@
 -- The counting machine as document 01 has it: a step's tests, the state after it, what it logs. Assumes nothing.
 use Prim.Native.Nat.{ℕ, _+_, _-_}
-use mathlib.Core.Path.{_≡_}
+use mathlib.Core.Path.{_≡_, refl}
 use mathlib.Core.Bool.{Bool, true, false, cond, not}
 use mathlib.Core.List.{List, [], _∷_}
-use lib.Dec.{T, eqb, ltb}
+use lib.Dec.{eqb, ltb}
 use Rattle.machine.specs.Check.{Check, need, first, rises}
 use Rattle.machine.specs.Machine.{Machine, codeOf}
 use Rattle.schedule.specs.Codes as code
@@ -39,11 +39,11 @@ logs s ReadableToWriteable = Withdrawn (s .t) ∷ []
 logs s NewRef = Granted (s .t) ∷ []
 logs s (DeleteRef t) = []
 
-pub rising : (s : State) (x : CountingStep) → T (rises 1 (tests s x))
-rising s (WriteableToReadable t) = tt
-rising s ReadableToWriteable = tt
-rising s NewRef = tt
-rising s (DeleteRef t) = tt
+pub rising : (s : State) (x : CountingStep) → rises 1 (tests s x) ≡ true
+rising s (WriteableToReadable t) = refl
+rising s ReadableToWriteable = refl
+rising s NewRef = refl
+rising s (DeleteRef t) = refl
 
 abbrev pub counting : Machine
 counting = record { State = State; Step = CountingStep; Entry = Entry; tests = tests; next = next; logs = logs; rising = rising }

@@ -1,1 +1,91 @@
-// to come
+// One step on any state: a step of another kind is 6, a log buffer too short 8, a state that is not sound 10, then the machine's own tests.
+use super::entry;
+use super::entry::Entry;
+use super::moves;
+use super::moves::Moved;
+use super::state;
+use super::state::State;
+use schedule::codes;
+use schedule::limits;
+use schedule::steps::CountingStep;
+use schedule::steps::Step;
+ghost use mathlib.Core.Path.{_≡_};
+ghost use mathlib.Core.Bool.{true};
+ghost use Prim.Native.Nat.{_≤_};
+ghost use lib.ListN.{length};
+ghost use Rattle.counting.specs.Sound.{sound};
+ghost use Rattle.counting.specs.Single.{Singled, Applied};
+
+// The state after the step, or the state as it was; the place is always 0; the entry's length.
+pub struct Answer {
+    pub state: State,
+    pub place: usize,
+    pub logged: usize,
+    pub code: u8,
+}
+
+pub fn single(s: State, x: Step, log: &mut [u8]) -> Answer
+    ensures { λ r. ⌜ Singled s x (now (log .entry)) r (now (log .exit)) ⌝ }
+{
+    let Step::Counting(own) = x else {
+        return quiet(s, codes::MALFORMED);
+    };
+    if log.len() < limits::ENTRY {
+        return quiet(s, codes::ROOM);
+    }
+    if state::is_sound(s) {
+        return apply(s, own, log);
+    }
+    quiet(s, codes::UNSOUND)
+}
+
+// An answer that logs nothing.
+fn quiet(s: State, code: u8) -> Answer
+    ensures { λ r. ⌜ r ≡ record { state = s; place = 0; logged = 0; code = code } ⌝ }
+{
+    Answer {
+        state: s,
+        place: 0,
+        logged: 0,
+        code,
+    }
+}
+
+fn apply(s: State, x: CountingStep, log: &mut [u8]) -> Answer
+    requires { ⌜ sound s ≡ true ⌝ }
+    requires { ⌜ 10 ≤ length (now log) ⌝ }
+    ensures { λ r. ⌜ Applied s x (now (log .entry)) r (now (log .exit)) ⌝ }
+{
+    match x {
+        CountingStep::WriteableToReadable { t } => settle(moves::writeable_to_readable(s, t), 0),
+        CountingStep::DeleteRef { t } => settle(moves::delete_ref(s, t), 0),
+        CountingStep::ReadableToWriteable => {
+            let m = moves::readable_to_writeable(s);
+            if m.code != 0 {
+                return settle(m, 0);
+            }
+            let n = entry::put_entry(log, 0, Entry::Withdrawn { t: s.t });
+            settle(m, n)
+        }
+        CountingStep::NewRef => {
+            let m = moves::new_ref(s);
+            if m.code != 0 {
+                return settle(m, 0);
+            }
+            let n = entry::put_entry(log, 0, Entry::Granted { t: s.t });
+            settle(m, n)
+        }
+    }
+}
+
+fn settle(m: Moved, logged: usize) -> Answer
+    ensures { λ r. ⌜ r ≡ record { state = m .state; place = 0; logged = logged; code = m .code } ⌝ }
+{
+    let s = m.state;
+    Answer {
+        state: s,
+        place: 0,
+        logged,
+        code: m.code,
+    }
+}

@@ -29,10 +29,10 @@ pub fn is_sound(s: State) -> bool
     ensures { λ r. ⌜ r ≡ sound s ⌝ }
 {
     if s.present {
-        if limits::COUNTER < s.count {
-            return false;
+        if s.count <= limits::COUNTER {
+            return s.refs == s.count;
         }
-        return s.refs == s.count;
+        return false;
     }
     if s.t != 0 {
         return false;
@@ -50,9 +50,8 @@ pub fn image(s: State, out: &mut [u8]) -> usize
     if out.len() < 7 {
         return 0;
     }
-    out[0] = s.present as u8;
-    rows::put4(out, 1, s.t);
-    out[5] = s.count;
-    out[6] = s.refs;
-    7
+    let a = rows::put1(out, 0, s.present as u8);
+    let b = rows::put4(out, a, s.t);
+    let c = rows::put1(out, b, s.count);
+    rows::put1(out, c, s.refs)
 }

@@ -4,37 +4,38 @@ use mathlib.Core.Bool.{true, false}
 use mathlib.Core.List.{List, [], _∷_, _++_}
 use Prim.Native.Nat.{ℕ, _≤_}
 use native.Mathlib.Omega.{arith}
-use lib.Dec.{T, leb, leb→le, le→leb}
+use borrow.Author.Tests.{leb-true, le-leb}
+use lib.Dec.{leb}
+use Rattle.rows.proofs.Cases.{on, both-true, true-both}
 use Rattle.machine.specs.Check.{Check, first, All, rises, FailsAt}
-use Rattle.machine.proofs.Support.{on, both, join}
 
 -- ---------- rising codes
 
 -- codes that rise from b on rise from any number below it
-pub rises-less : (a b : ℕ) (cs : List Check) → a ≤ b → T (rises b cs) → T (rises a cs)
-rises-less a b [] h t = tt
+pub rises-less : (a b : ℕ) (cs : List Check) → a ≤ b → rises b cs ≡ true → rises a cs ≡ true
+rises-less a b [] h t = refl
 rises-less a b (c ∷ cs) h t =
-    let p = both (leb b (c .code)) (rises (c .code) cs) t in
-    let l : b ≤ c .code = leb→le b (c .code) (p .0) in
-    join (leb a (c .code)) (rises (c .code) cs) (le→leb a (c .code) (omega arith)) (p .1)
+    let p = both-true (leb b (c .code)) (rises (c .code) cs) t in
+    let l : b ≤ c .code = leb-true b (c .code) (p .0) in
+    true-both (le-leb a (c .code) (omega arith)) (p .1)
 
-module _ (c : Check) (cs : List Check) (t : T (rises 1 (c ∷ cs))) where
+module _ (c : Check) (cs : List Check) (t : rises 1 (c ∷ cs) ≡ true) where
   low : 1 ≤ c .code
-  low = leb→le 1 (c .code) (both (leb 1 (c .code)) (rises (c .code) cs) t .0)
+  low = leb-true 1 (c .code) (both-true (leb 1 (c .code)) (rises (c .code) cs) t .0)
 
   -- no code is 0
   pub rises-head : c .code ≡ 0 → ⊥
   rises-head e = omega (arith, low)
 
-  pub rises-tail : T (rises 1 cs)
-  rises-tail = rises-less 1 (c .code) cs low (both (leb 1 (c .code)) (rises (c .code) cs) t .1)
+  pub rises-tail : rises 1 cs ≡ true
+  rises-tail = rises-less 1 (c .code) cs low (both-true (leb 1 (c .code)) (rises (c .code) cs) t .1)
 
 -- the left part of two lists of tests
-pub rises-append : (a : ℕ) (xs ys : List Check) → T (rises a (xs ++ ys)) → T (rises a xs)
-rises-append a [] ys t = tt
+pub rises-append : (a : ℕ) (xs ys : List Check) → rises a (xs ++ ys) ≡ true → rises a xs ≡ true
+rises-append a [] ys t = refl
 rises-append a (c ∷ cs) ys t =
-    let p = both (leb a (c .code)) (rises (c .code) (cs ++ ys)) t in
-    join (leb a (c .code)) (rises (c .code) cs) (p .0) (rises-append (c .code) cs ys (p .1))
+    let p = both-true (leb a (c .code)) (rises (c .code) (cs ++ ys)) t in
+    true-both (p .0) (rises-append (c .code) cs ys (p .1))
 
 -- ---------- all hold exactly if the code is 0
 
@@ -42,7 +43,7 @@ pub first-all : (cs : List Check) → All cs → first cs ≡ 0
 first-all [] a = refl
 first-all (c ∷ cs) a = rw (a .0) (first-all cs (a .1))
 
-pub all-first : (cs : List Check) → T (rises 1 cs) → first cs ≡ 0 → All cs
+pub all-first : (cs : List Check) → rises 1 cs ≡ true → first cs ≡ 0 → All cs
 all-first [] t e = tt
 all-first (c ∷ cs) t e = on (c .holds)
     (λ b. (b, all-first cs (rises-tail c cs t) (rw b at e)))
@@ -51,7 +52,7 @@ all-first (c ∷ cs) t e = on (c .holds)
 -- ---------- one list of tests after the other
 
 -- the first list holds: the second decides
-pub first-past : (xs ys : List Check) → T (rises 1 xs) → first xs ≡ 0 → first (xs ++ ys) ≡ first ys
+pub first-past : (xs ys : List Check) → rises 1 xs ≡ true → first xs ≡ 0 → first (xs ++ ys) ≡ first ys
 first-past [] ys t e = refl
 first-past (c ∷ cs) ys t e = on (c .holds)
     (λ b. rw b (first-past cs ys (rises-tail c cs t) (rw b at e)))
@@ -110,9 +111,9 @@ pub fails-first : (cs : List Check) (n : ℕ) → FailsAt cs n → first cs ≡ 
 fails-first cs n f = rw (f .split) (first-at (f .before) (f .test) (f .behind) (f .held) (f .fails) ∙ f .code)
 
 -- and such a code is not 0
-rises-mid : (xs : List Check) (c : Check) (ys : List Check) → T (rises 1 (xs ++ (c ∷ ys))) → c .code ≡ 0 → ⊥
+rises-mid : (xs : List Check) (c : Check) (ys : List Check) → rises 1 (xs ++ (c ∷ ys)) ≡ true → c .code ≡ 0 → ⊥
 rises-mid [] c ys t = rises-head c ys t
 rises-mid (x ∷ xs) c ys t = rises-mid xs c ys (rises-tail x (xs ++ (c ∷ ys)) t)
 
-pub fails-nonzero : (cs : List Check) (n : ℕ) → T (rises 1 cs) → FailsAt cs n → n ≡ 0 → ⊥
+pub fails-nonzero : (cs : List Check) (n : ℕ) → rises 1 cs ≡ true → FailsAt cs n → n ≡ 0 → ⊥
 fails-nonzero cs n t f e = rises-mid (f .before) (f .test) (f .behind) (rw (f .split) at t) (f .code ∙ e)

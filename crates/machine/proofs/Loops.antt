@@ -10,10 +10,10 @@ use lib.ListN.{length, length-append}
 use Rattle.rows.specs.Stores.{puts}
 use Rattle.rows.specs.Walk.{pieces}
 use Rattle.rows.proofs.Stores.{length-puts, puts-append}
+use Rattle.rows.proofs.Walks.{pieces-append}
 use Rattle.machine.specs.Machine.{Machine, codeOf}
 use Rattle.machine.specs.Replay.{Replayed, replay, behind}
 use Rattle.machine.specs.Loop.{stepsFrom, Formed, Left, left}
-use Rattle.machine.proofs.Support.{pieces-append}
 use Rattle.machine.proofs.Replays.{replay-on, replay-stop}
 
 -- what is left behind a step that logged es, and whose entries stand in the log already

@@ -11,7 +11,7 @@ use lib.ListN.{length, take, length-append}
 use lib.Seq.{take-length, take-take, length-take-le, take-append-seam}
 use Rattle.machine.specs.Machine.{Machine, codeOf, Accepted}
 use Rattle.machine.specs.Replay.{Replayed, behind, replay, AllAccepted, after, entries, Stopped, Finished, Told}
-use Rattle.machine.proofs.Support.{on, clash}
+use Rattle.rows.proofs.Cases.{on, clash}
 use Rattle.machine.proofs.Steps.{accepted-code, code-accepted}
 
 -- a replay whose first step has the next number

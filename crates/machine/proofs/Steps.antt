@@ -6,7 +6,7 @@ use borrow.Author.Tests.{eq-eqb, ne-eqb, eqb-true, eqb-false}
 use lib.Dec.{eqb}
 use Rattle.machine.specs.Check.{FailsAt}
 use Rattle.machine.specs.Machine.{Machine, codeOf, Accepted, refused, accepted, step}
-use Rattle.machine.proofs.Support.{on, clash}
+use Rattle.rows.proofs.Cases.{on, clash}
 use Rattle.machine.proofs.Checks.{first-all, all-first, first-fails, fails-first, fails-nonzero}
 
 module _ (m : Machine) (s : m .State) (x : m .Step) where

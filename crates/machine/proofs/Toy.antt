@@ -1,17 +1,18 @@
 -- The whole scheme on the smallest machine, a row of counters, as an example to copy. Assumes nothing.
 use mathlib.Core.Path.{_≡_, refl}
-use mathlib.Core.Bool.{Bool}
+use mathlib.Core.Bool.{Bool, true}
 use mathlib.Core.List.{List, [], _∷_}
 use Prim.Native.Nat.{ℕ, zero, suc, _+_, _-_, _≤_}
 use native.Mathlib.Omega.{arith}
-use lib.Dec.{T, eqb, ltb}
+use lib.Dec.{eqb, ltb}
 use lib.ListN.{length, getD, set, replicate}
 use borrow.Author.Tests.{ltb-true, eqb-true, eqb-false}
+use Rattle.rows.proofs.Cases.{on, tick-bit, ℕ-dec}
+use Rattle.rows.proofs.Row.{row-up, row-down}
 use Rattle.machine.specs.Check.{Check, need, rises}
 use Rattle.machine.specs.Machine.{Machine, Accepted}
-use Rattle.machine.specs.History.{History, event, Run, did#, logged#, is, ℕ-dec}
+use Rattle.machine.specs.History.{History, event, Run, did#, logged#, is}
 use Rattle.machine.specs.Replay.{replay}
-use Rattle.machine.proofs.Support.{on, tick-bit, row-up, row-down}
 use Rattle.machine.proofs.Runs.{always, is-yes, is-no}
 
 -- 1. the machine: who enters cell r leaves it later
@@ -34,9 +35,9 @@ abbrev logs : List ℕ → Step → List Entry
 logs s (enter r) = []
 logs s (leave r) = gone r ∷ []
 
-abbrev rising : (s : List ℕ) (x : Step) → T (rises 1 (tests s x))
-rising s (enter r) = tt
-rising s (leave r) = tt
+abbrev rising : (s : List ℕ) (x : Step) → rises 1 (tests s x) ≡ true
+rising s (enter r) = refl
+rising s (leave r) = refl
 
 abbrev gate : Machine
 gate = record { State = List ℕ; Step = Step; Entry = Entry; tests = tests; next = next; logs = logs; rising = rising }

@@ -1,10 +1,7 @@
 -- What an accepted history is, and counting in it. Demands are said of histories, never of states. Assumes nothing.
-use mathlib.Core.Path.{_≡_, refl}
 use mathlib.Core.Bool.{Bool, true, false}
 use mathlib.Core.List.{List, [], _∷_, _++_}
 use Prim.Native.Nat.{ℕ}
-use lib.Dec.{eqb}
-use borrow.Author.Tests.{eqb-true, eqb-false}
 use Rattle.rows.specs.Walk.{tick}
 use Rattle.machine.specs.Machine.{Machine, Accepted}
 
@@ -49,18 +46,10 @@ module _ {X E : Type 0} where
   logOf [] = []
   logOf (e ∷ h) = logOf h ++ e .wrote
 
--- "is x": a test of one's own kind, of a type whose equality is decided
+-- "is x": a test of one's own kind, of a type whose equality is decided. Of numbers, ℕ-dec of Rattle.rows.proofs.Cases decides it and computes
 abbrev pub holding : {P : Type 0} → Dec P → Bool
 holding (yes p) = true
 holding (no p) = false
 
 abbrev pub is : {A : Type 0} → Discrete A → A → A → Bool
 is D x y = holding (D y x)
-
--- equality of numbers decided by eqb, so that "is x" computes at numerals
-abbrev pub eq-or-not : (m n : ℕ) (b : Bool) → eqb m n ≡ b → Dec (m ≡ n)
-eq-or-not m n true e = yes (eqb-true m n e)
-eq-or-not m n false e = no (eqb-false m n e)
-
-abbrev pub ℕ-dec : Discrete ℕ
-ℕ-dec m n = eq-or-not m n (eqb m n) refl

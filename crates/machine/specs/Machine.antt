@@ -1,8 +1,9 @@
 -- What a machine is, and what one step of it answers. Assumes nothing.
-use mathlib.Core.Bool.{cond}
+use mathlib.Core.Path.{_≡_}
+use mathlib.Core.Bool.{true, cond}
 use mathlib.Core.List.{List}
 use Prim.Native.Nat.{ℕ}
-use lib.Dec.{T, eqb}
+use lib.Dec.{eqb}
 use Rattle.machine.specs.Check.{Check, first, All, rises}
 
 -- three total functions: the tests of a step, the state after a step that passes them, and what that step logs
@@ -14,7 +15,7 @@ pub record Machine : Type 1 where
   pub next : State → Step → State
   pub logs : State → Step → List Entry
   -- the tests go by rising code, and no code is 0
-  pub rising : (s : State) (x : Step) → T (rises 1 (tests s x))
+  pub rising : (s : State) (x : Step) → rises 1 (tests s x) ≡ true
 
 -- the code that a step gets: 0, or that of its first failing test
 abbrev pub codeOf : (m : Machine) → m .State → m .Step → ℕ

@@ -1,0 +1,46 @@
+-- An entry and an image, laid down piece by piece. Assumes nothing.
+use mathlib.Core.Path.{_≡_, refl, _∙_}
+use mathlib.Core.List.{List, [], _∷_, _++_}
+use Prim.Native.Nat.{ℕ, _+_, _-_, _≤_, _<_}
+use native.Mathlib.Omega.{arith}
+use mir.Val.{boolByte}
+use lib.ListN.{length, set, length-set}
+use Rattle.rows.specs.Bytes.{big}
+use Rattle.rows.specs.Stores.{Laid}
+use Rattle.rows.proofs.Stores.{whole-laid, none-laid, laid-then, laid-length}
+use Rattle.counting.specs.Image.{tagged, entryBytes, imageBytes}
+use Rattle.counting.specs.declared.entry.Entry.{Entry}
+use Rattle.counting.specs.declared.state.State.{State}
+
+module _ (l : List ℕ) (at tag t : ℕ) where
+  pub tagged-short : length l < 6 → Laid l at (tagged tag t) at l
+  tagged-short h = none-laid l at (tagged tag t) (omega arith)
+
+  pub tagged-past : 6 ≤ length l → length l - 6 < at → Laid l at (tagged tag t) at l
+  tagged-past h p = none-laid l at (tagged tag t) (omega arith)
+
+  module _ (h : 6 ≤ length l) (p : at ≤ length l - 6) (r : ℕ) (l′ : List ℕ) where
+    pub tagged-laid : Laid (set (set l at 5) (at + 1) tag) (at + 1 + 1) (big 4 t) r l′ → Laid l at (tagged tag t) r l′
+    tagged-laid k =
+        laid-then l at (5 ∷ tag ∷ []) (big 4 t) (at + 1 + 1) (set (set l at 5) (at + 1) tag) r l′ (omega arith)
+        (whole-laid l at (5 ∷ tag ∷ []) (at + 1 + 1) (set (set l at 5) (at + 1) tag) (omega arith) (omega arith) refl) k
+
+-- a writer behind two stores leaves the buffer as long as it was
+pub tagged-length : (l : List ℕ) (at a b i r : ℕ) (bs l′ : List ℕ) → Laid (set (set l at a) (at + 1) b) i bs r l′ → length l′ ≡ length l
+tagged-length l at a b i r bs l′ k = laid-length _ i bs r l′ k ∙ simp length-set
+
+module _ (s : State) (l : List ℕ) where
+  pub image-short : length l < 7 → Laid l 0 (imageBytes s) 0 l
+  image-short h = none-laid l 0 (imageBytes s) (omega arith)
+
+  pub image-laid : 7 ≤ length l → (a b c d : ℕ) (k m n o : List ℕ) → Laid l 0 (boolByte (s .present) ∷ []) a k → Laid k a (big 4 (s .t)) b m
+      → Laid m b (s .count ∷ []) c n → Laid n c (s .refs ∷ []) d o → Laid l 0 (imageBytes s) d o
+  image-laid h a b c d k m n o p q r t =
+      let front = boolByte (s .present) ∷ [] in
+      let value = laid-then l 0 front (big 4 (s .t)) a k b m (omega arith) p q in
+      let count = laid-then l 0 (front ++ big 4 (s .t)) (s .count ∷ []) b m c n (omega arith) value r in
+      laid-then l 0 (front ++ big 4 (s .t) ++ (s .count ∷ [])) (s .refs ∷ []) c n d o (omega arith) count t
+
+-- an entry that was matched
+pub entry-laid : (e e′ : Entry) (l : List ℕ) (at r : ℕ) (l′ : List ℕ) → e ≡ e′ → Laid l at (entryBytes e′) r l′ → Laid l at (entryBytes e) r l′
+entry-laid e e′ l at r l′ p k = rw p k
