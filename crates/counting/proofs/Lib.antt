@@ -1,1 +1,3 @@
 pub mod Writes
+pub mod Moved
+pub mod Answering

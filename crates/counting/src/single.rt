@@ -27,14 +27,23 @@ pub struct Answer {
 pub fn single(s: State, x: Step, log: &mut [u8]) -> Answer
     ensures { λ r. ⌜ Singled s x (now (log .entry)) r (now (log .exit)) ⌝ }
 {
-    let Step::Counting(own) = x else {
-        return quiet(s, codes::MALFORMED);
-    };
+    match x {
+        Step::Flat(_) => quiet(s, codes::MALFORMED),
+        Step::Lock(_) => quiet(s, codes::MALFORMED),
+        Step::Counting(own) => tested(s, own, log),
+        Step::Flag(_) => quiet(s, codes::MALFORMED),
+    }
+}
+
+// A step of this kind: the log's room and the state come before the machine's own tests.
+fn tested(s: State, x: CountingStep, log: &mut [u8]) -> Answer
+    ensures { λ r. ⌜ Applied s x (now (log .entry)) r (now (log .exit)) ⌝ }
+{
     if log.len() < limits::ENTRY {
         return quiet(s, codes::ROOM);
     }
     if state::is_sound(s) {
-        return apply(s, own, log);
+        return apply(s, x, log);
     }
     quiet(s, codes::UNSOUND)
 }

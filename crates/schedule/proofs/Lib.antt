@@ -2,3 +2,9 @@ pub mod Measures
 pub mod Table
 pub mod Past
 pub mod Counts
+pub mod Numbers
+pub mod Languages
+pub mod OneStep
+pub mod AllSteps
+pub mod Fronts
+pub mod Canonical

@@ -1,3 +1,4 @@
+use Rattle.counting.proofs.Answering.{write-arm, delete-arm, withdraw-refused, new-refused, withdraw-arm, new-arm}
 use borrow.Author.Needs.{needs}
 use Rattle.counting.proofs.single.apply.Statement.{statement}
 use Rattle.counting.proofs.single.apply.Tie as tie
@@ -48,7 +49,7 @@ settle-requires-3 c κs = search needs
 
 -- src/single.rt:65:17
 returns : tie.Need-returns
-returns c = ?
+returns c = search withdraw-refused
 
 -- src/single.rt:67:17
 put-entry-requires : tie.Need-put-entry-requires
@@ -72,7 +73,7 @@ settle-requires-5 c κs = search needs
 
 -- src/single.rt:73:17
 returns-2 : tie.Need-returns-2
-returns-2 c = ?
+returns-2 c = search new-refused
 
 -- src/single.rt:75:17
 put-entry-requires-2 : tie.Need-put-entry-requires-2
@@ -84,11 +85,11 @@ settle-requires-6 c κs = search needs
 
 -- src/single.rt:54:1
 returns-3 : tie.Need-returns-3
-returns-3 c = ?
+returns-3 c = search write-arm
 
 -- src/single.rt:54:1
 returns-4 : tie.Need-returns-4
-returns-4 c = ?
+returns-4 c = search delete-arm
 
 -- src/single.rt:54:1
 same-length : tie.Need-same-length
@@ -96,7 +97,7 @@ same-length c = search needs
 
 -- src/single.rt:54:1
 returns-5 : tie.Need-returns-5
-returns-5 c = ?
+returns-5 c = search withdraw-arm
 
 -- src/single.rt:54:1
 same-length-2 : tie.Need-same-length-2
@@ -104,7 +105,7 @@ same-length-2 c = search needs
 
 -- src/single.rt:54:1
 returns-6 : tie.Need-returns-6
-returns-6 c = ?
+returns-6 c = search new-arm
 
 pub apply-spec : {M : Type 1} → statement M
 apply-spec =
