@@ -5,13 +5,14 @@ use Prim.Native.Nat.{ℕ, _<_, _≤_}
 use native.Mathlib.Omega.{arith}
 use borrow.Author.Tests.{eq-eqb, ne-eqb, eqb-true, lt-ltb, ltb-true}
 use lib.Dec.{eqb, leb}
-use Rattle.rows.proofs.Cases.{on, both-true}
+use Rattle.rows.proofs.Cases.{both-true}
 use Rattle.machine.specs.Machine.{codeOf, Accepted}
 use Rattle.machine.proofs.Steps.{code-accepted}
+use Rattle.machine.proofs.Moves.{move-code}
 use Rattle.schedule.specs.Limits as limit
 use Rattle.schedule.specs.declared.steps.CountingStep.{CountingStep}
 use Rattle.schedule.specs.declared.steps.CountingStep.the-variants.{WriteableToReadable, ReadableToWriteable, NewRef, DeleteRef}
-use Rattle.counting.specs.Counting.{counting, next, movable, moved}
+use Rattle.counting.specs.Counting.{counting, tests, next, movable, moved}
 use Rattle.counting.specs.Sound.{sound}
 use Rattle.counting.specs.declared.state.State.{State}
 
@@ -40,6 +41,4 @@ module _ (s : State) (x : CountingStep) where
   moved-back n = rw (ne-eqb (codeOf counting s x) 0 n)
 
   pub moved-code : sound s ≡ true → moved s x .code ≡ codeOf counting s x
-  moved-code h = on (eqb (codeOf counting s x) 0)
-      (λ e. let z : codeOf counting s x ≡ 0 = eqb-true (codeOf counting s x) 0 e in rw (moved-on h z) (sym z))
-      (λ e. rw e)
+  moved-code h = move-code (tests s x) (movable s x) (λ z. movable-in s x h (code-accepted counting s x z))

@@ -1,11 +1,12 @@
 -- The counting machine as document 01 has it: a step's tests, the state after it, what it logs. Assumes nothing.
 use Prim.Native.Nat.{ℕ, _+_, _-_}
 use mathlib.Core.Path.{_≡_, refl}
-use mathlib.Core.Bool.{Bool, true, false, cond, not}
+use mathlib.Core.Bool.{Bool, true, false, not}
 use mathlib.Core.List.{List, [], _∷_}
 use lib.Dec.{eqb, ltb}
-use Rattle.machine.specs.Check.{Check, need, first, rises}
-use Rattle.machine.specs.Machine.{Machine, codeOf}
+use Rattle.machine.specs.Check.{Check, need, rises}
+use Rattle.machine.specs.Machine.{Machine}
+use Rattle.machine.specs.Move.{moveCode, moveTo}
 use Rattle.schedule.specs.Codes as code
 use Rattle.schedule.specs.Limits as limit
 use Rattle.schedule.specs.declared.steps.CountingStep.{CountingStep}
@@ -58,7 +59,4 @@ movable s NewRef = ltb (s .refs) limit.counter
 movable s (DeleteRef t) = ltb 0 (s .count)
 
 abbrev pub moved : State → CountingStep → Moved
-moved s x =
-    cond (eqb (codeOf counting s x) 0)
-    (cond (movable s x) (record { state = next s x; code = 0 }) (record { state = s; code = code.unsound }))
-    (record { state = s; code = codeOf counting s x })
+moved s x = record { state = moveTo (tests s x) (movable s x) (next s x) s; code = moveCode (tests s x) (movable s x) }

@@ -7,3 +7,4 @@ pub mod Loops
 pub mod Singles
 pub mod Multisets
 pub mod Toy
+pub mod Moves

@@ -5,3 +5,4 @@ pub mod Replay
 pub mod Loop
 pub mod Multiset
 pub mod Single
+pub mod Move
