@@ -8,3 +8,10 @@ pub mod OneStep
 pub mod AllSteps
 pub mod Fronts
 pub mod Canonical
+pub mod Standing
+pub mod Walked
+pub mod Opening
+pub mod Given
+pub mod Tags
+pub mod Bridge
+pub mod Settled

@@ -8,9 +8,7 @@ use Rattle.rows.specs.Bytes.{numberAt}
 use Rattle.schedule.specs.Limits as limit
 use Rattle.schedule.specs.Widths as kind
 use Rattle.schedule.specs.Widths.{lengthOf}
-use Rattle.schedule.specs.Reading.{measuredAt}
-use Rattle.schedule.specs.Schedule.{Schedule, Decoded, faulty, good, decode}
-use Rattle.schedule.specs.declared.lengths.Measured.the-variants.{End, Broken, Whole}
+use Rattle.schedule.specs.Schedule.{Schedule, faulty, good, decode}
 use Rattle.schedule.specs.declared.front.Fault.{Fault}
 use Rattle.schedule.specs.declared.front.Fault.the-variants.{Length, Version, Body, Kind, Parameter, Step, Surplus}
 
@@ -69,17 +67,17 @@ pub record WrongParameter (f : List ℕ) : Type 0 where
 
 -- ---------- the steps, in reading order
 
--- k whole steps of a kind stand one after the other from a place to another
-pub data Whole# (kind : ℕ) (f : List ℕ) : ℕ → ℕ → ℕ → Type 0 where
-  none : {at : ℕ} → Whole# kind f at 0 at
-  more : {at next to k : ℕ} → measuredAt kind f at ≡ Whole next → Whole# kind f next k to → Whole# kind f at (suc k) to
-
 -- what is a step and what is not: length 0, past the body, or not its tag's; no unknown tag has a length
 pub record Stands (kind : ℕ) (f : List ℕ) (at next : ℕ) : Type 0 where
   pub some : getD f at 0 ≡ 0 → ⊥
   pub fits : at + 1 + getD f at 0 ≤ length f
   pub own : lengthOf kind (getD f (at + 1) 0) ≡ getD f at 0
   pub ends : next ≡ at + 1 + getD f at 0
+
+-- k whole steps of a kind stand one after the other from a place to another
+pub data Whole# (kind : ℕ) (f : List ℕ) : ℕ → ℕ → ℕ → Type 0 where
+  none : {at : ℕ} → Whole# kind f at 0 at
+  more : {at next to k : ℕ} → Stands kind f at next → Whole# kind f next k to → Whole# kind f at (suc k) to
 
 abbrev pub Malformed : ℕ → List ℕ → ℕ → Type 0
 Malformed kind f at =

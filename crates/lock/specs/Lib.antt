@@ -1,0 +1,3 @@
+pub mod Lock
+pub mod Moved
+pub mod Image

@@ -1,0 +1,157 @@
+-- The shift lock as document 01 has it: a step's tests, the state after it, what it logs. Assumes nothing.
+use Prim.Native.Nat.{ℕ, _+_, _-_}
+use mathlib.Core.Path.{_≡_, refl}
+use mathlib.Core.Bool.{Bool, true, false, cond, not, _&&_}
+use mathlib.Core.List.{List, [], _∷_, _++_}
+use lib.Dec.{eqb, ltb, leb}
+use lib.ListN.{getD, set, replicate}
+use Rattle.machine.specs.Check.{Check, need, rises}
+use Rattle.machine.specs.Machine.{Machine}
+use Rattle.schedule.specs.Codes as code
+use Rattle.schedule.specs.Limits as limit
+use Rattle.schedule.specs.declared.steps.LockStep.{LockStep}
+use Rattle.schedule.specs.declared.steps.LockStep.the-variants.{ExcStart, ExcCheckCount, ExcFinish, ExcRelease, SharedStart, SharedFinish, SharedRelease}
+use Rattle.lock.specs.declared.state.Cell.{Cell}
+use Rattle.lock.specs.declared.state.Head.{Head}
+use Rattle.lock.specs.declared.state.State.{State}
+use Rattle.lock.specs.declared.state.Made.{Made}
+use Rattle.lock.specs.declared.entry.Entry.{Entry}
+use Rattle.lock.specs.declared.entry.Entry.the-variants.{Withdrawn, Granted}
+
+-- ---------- fresh: all counts 0, unlocked, storing the initial record; bad parameters are 5 with a state of zeros
+
+abbrev pub zeroCell : Cell
+zeroCell = record { count = 0; pending = 0; guards = 0 }
+
+abbrev pub unlocked : ℕ → ℕ → Bool → State
+unlocked width t stored =
+    record {
+      head = record { t = t; width = width; cursor = 0; locked = false; stored = stored; pending = false; guard = false };
+      cells = replicate limit.width zeroCell;
+    }
+
+abbrev pub freshState : ℕ → ℕ → State
+freshState width t = unlocked width t true
+
+abbrev pub freshOf : ℕ → ℕ → Made
+freshOf width t =
+    cond (eqb width 0) (record { state = unlocked 0 0 false; code = code.parameter })
+    (cond (ltb limit.width width) (record { state = unlocked 0 0 false; code = code.parameter })
+    (record { state = freshState width t; code = code.accepted }))
+
+-- ---------- the tests: those on the head, then those on the cell that the step looks at
+
+abbrev pub cell : State → ℕ → Cell
+cell s r = getD (s .cells) r zeroCell
+
+abbrev pub startTests : Head → List Check
+startTests h = need code.phase (not (h .locked)) ∷ []
+
+abbrev pub checkTests : Head → List Check
+checkTests h = need code.phase (h .pending) ∷ need code.cursor (ltb (h .cursor) (h .width)) ∷ []
+
+abbrev pub excFinishTests : Head → List Check
+excFinishTests h = need code.phase (h .pending) ∷ need code.cursor (eqb (h .cursor) (h .width)) ∷ []
+
+abbrev pub releaseTests : Head → List Check
+releaseTests h = need code.phase (h .guard) ∷ []
+
+abbrev pub insideTests : Head → ℕ → List Check
+insideTests h r = need code.outside (ltb r (h .width)) ∷ []
+
+abbrev pub finishTests : Head → ℕ → List Check
+finishTests h r = need code.outside (ltb r (h .width)) ∷ need code.phase (not (h .locked)) ∷ []
+
+abbrev pub emptyTests : Cell → List Check
+emptyTests c = need code.count (eqb (c .count) 0) ∷ []
+
+abbrev pub roomTests : Cell → List Check
+roomTests c = need code.full (ltb (c .count) limit.counter) ∷ []
+
+abbrev pub pendingTests : Cell → List Check
+pendingTests c = need code.missing (ltb 0 (c .pending)) ∷ []
+
+-- that very guard: one stands at the cell, and guards carry the record in store
+abbrev pub guardTests : Head → Cell → ℕ → List Check
+guardTests h c t = need code.missing (ltb 0 (c .guards)) ∷ need code.missing (h .stored) ∷ need code.missing (eqb t (h .t)) ∷ []
+
+abbrev pub headTests : State → LockStep → List Check
+headTests s ExcStart = startTests (s .head)
+headTests s ExcCheckCount = checkTests (s .head)
+headTests s ExcFinish = excFinishTests (s .head)
+headTests s (ExcRelease t) = releaseTests (s .head)
+headTests s (SharedStart r) = insideTests (s .head) r
+headTests s (SharedFinish r) = finishTests (s .head) r
+headTests s (SharedRelease r t) = insideTests (s .head) r
+
+abbrev pub cellTests : State → LockStep → List Check
+cellTests s ExcStart = []
+cellTests s ExcCheckCount = emptyTests (cell s (s .head .cursor))
+cellTests s ExcFinish = []
+cellTests s (ExcRelease t) = []
+cellTests s (SharedStart r) = roomTests (cell s r)
+cellTests s (SharedFinish r) = pendingTests (cell s r)
+cellTests s (SharedRelease r t) = guardTests (s .head) (cell s r) t
+
+abbrev pub tests : State → LockStep → List Check
+tests s x = headTests s x ++ cellTests s x
+
+-- ---------- the state after
+
+abbrev pub withHead : State → Head → State
+withHead s h = record { head = h; cells = s .cells }
+
+abbrev pub withCell : State → ℕ → Cell → State
+withCell s r c = record { head = s .head; cells = set (s .cells) r c }
+
+abbrev pub starting : Head → Head
+starting h = record { t = h .t; width = h .width; cursor = 0; locked = true; stored = h .stored; pending = true; guard = h .guard }
+
+abbrev pub checking : Head → Head
+checking h = record { t = h .t; width = h .width; cursor = h .cursor + 1; locked = h .locked; stored = h .stored; pending = h .pending; guard = h .guard }
+
+abbrev pub taking : Head → Head
+taking h = record { t = 0; width = h .width; cursor = 0; locked = h .locked; stored = false; pending = false; guard = true }
+
+abbrev pub storing : Head → ℕ → Head
+storing h t = record { t = t; width = h .width; cursor = h .cursor; locked = false; stored = true; pending = h .pending; guard = false }
+
+abbrev pub announced : Cell → Cell
+announced c = record { count = c .count + 1; pending = c .pending + 1; guards = c .guards }
+
+abbrev pub granted : Cell → Cell
+granted c = record { count = c .count; pending = c .pending - 1; guards = c .guards + 1 }
+
+abbrev pub released : Cell → Cell
+released c = record { count = c .count - 1; pending = c .pending; guards = c .guards - 1 }
+
+abbrev pub next : State → LockStep → State
+next s ExcStart = withHead s (starting (s .head))
+next s ExcCheckCount = withHead s (checking (s .head))
+next s ExcFinish = withHead s (taking (s .head))
+next s (ExcRelease t) = withHead s (storing (s .head) t)
+next s (SharedStart r) = withCell s r (announced (cell s r))
+next s (SharedFinish r) = withCell s r (granted (cell s r))
+next s (SharedRelease r t) = withCell s r (released (cell s r))
+
+-- exc_finish logs the withdrawn record, shared_finish r and the record
+abbrev pub logs : State → LockStep → List Entry
+logs s ExcStart = []
+logs s ExcCheckCount = []
+logs s ExcFinish = Withdrawn (s .head .t) ∷ []
+logs s (ExcRelease t) = []
+logs s (SharedStart r) = []
+logs s (SharedFinish r) = Granted r (s .head .t) ∷ []
+logs s (SharedRelease r t) = []
+
+pub rising : (s : State) (x : LockStep) → rises 1 (tests s x) ≡ true
+rising s ExcStart = refl
+rising s ExcCheckCount = refl
+rising s ExcFinish = refl
+rising s (ExcRelease t) = refl
+rising s (SharedStart r) = refl
+rising s (SharedFinish r) = refl
+rising s (SharedRelease r t) = refl
+
+abbrev pub lock : Machine
+lock = record { State = State; Step = LockStep; Entry = Entry; tests = tests; next = next; logs = logs; rising = rising }

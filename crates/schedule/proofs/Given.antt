@@ -1,0 +1,121 @@
+-- Each fault is given exactly when its line of the table of codes says so, and no fault exactly where the file is well formed. Assumes nothing.
+use mathlib.Core.Path.{_≡_, _∙_}
+use mathlib.Core.List.{List, map}
+use Prim.Native.Nat.{ℕ, _≤_}
+use native.Mathlib.Nat.{zero-add}
+use lib.ListN.{length, getD}
+use Rattle.schedule.specs.Limits as limit
+use Rattle.schedule.specs.Language.{Language, stepAt}
+use Rattle.schedule.specs.Spelling.{flat, lock, counting, flag}
+use Rattle.schedule.specs.Reading.{Placed, broken, surplus, placed, placesFrom}
+use Rattle.schedule.specs.Front.{openedOf}
+use Rattle.schedule.specs.Schedule.{Schedule, ofFlat, ofLock, ofCounting, ofFlag, Decoded, faulty, good, withSteps, behindFront, decode}
+use Rattle.schedule.specs.Given.{WrongLength, WrongVersion, LongBody, Framed, UnknownKind, Ready, flatReady, lockReady, countingReady, flagReady, WrongParameter, BrokenStep, SurplusBytes, WellFormed, FaultsGiven}
+use Rattle.schedule.specs.declared.steps.Params.{Params}
+use Rattle.schedule.specs.declared.steps.Params.the-variants.{Flat, Lock, Counting, Flag}
+use Rattle.schedule.specs.declared.front.Fault.{Fault}
+use Rattle.schedule.specs.declared.front.Fault.the-variants.{Length, Version, Body, Kind, Parameter, Step, Surplus}
+use Rattle.schedule.specs.declared.front.Opened.{Opened}
+use Rattle.schedule.specs.declared.front.Opened.the-variants.{Faulty, Open}
+use Rattle.schedule.proofs.Walked.{PlacesSay, places-say, broken-placed, surplus-placed, whole-placed}
+use Rattle.schedule.proofs.Opening.{kindOf, FrontSays, front-says, ready-opened, length-opened, version-opened, body-opened, kind-opened, parameter-opened}
+
+-- what each answer says of the file: the table, line by line
+abbrev pub FileSays : List ℕ → Decoded → Type 0
+FileSays f (faulty Length) = WrongLength f
+FileSays f (faulty Version) = WrongVersion f
+FileSays f (faulty Body) = LongBody f
+FileSays f (faulty Kind) = UnknownKind f
+FileSays f (faulty Parameter) = WrongParameter f
+FileSays f (faulty (Step k)) = BrokenStep f k
+FileSays f (faulty Surplus) = SurplusBytes f
+FileSays f (good s) = WellFormed f
+
+ready-inside : {f : List ℕ} {from : ℕ} → Framed f → Ready f from → from ≤ length f
+ready-inside g (flatReady k l n) = l
+ready-inside g (lockReady k l m n) = l
+ready-inside g (countingReady k) = g .sized .long
+ready-inside g (flagReady k l m n v) = l
+
+module _ (f : List ℕ) where
+  -- what holds of the steps of any language behind the front holds behind an open front
+  behind-open : (P : Decoded → Type 0) (p : Params) (from : ℕ)
+      → ((S : Type 0) (l : Language S) (make : List S → Schedule) → P (withSteps l f make (placesFrom (kindOf p) limit.steps f from 0)))
+      → P (behindFront f (Open p from))
+  behind-open P (Flat n) from h = h _ flat (ofFlat n)
+  behind-open P (Lock n t) from h = h _ lock (ofLock n t)
+  behind-open P Counting from h = h _ counting ofCounting
+  behind-open P (Flag n v) from h = h _ flag (ofFlag n v)
+
+  -- ---- from the answer to the file
+
+  module _ {S : Type 0} (l : Language S) (make : List S → Schedule) (from : ℕ) (g : Framed f) (r : Ready f from) where
+    steps-say : (p : Placed) → PlacesSay (getD f 3 0) f limit.steps from 0 p → FileSays f (withSteps l f make p)
+    steps-say (broken k) b =
+        let e : k ≡ b .before = b .index ∙ zero-add (b .before) in
+        record { framed = g; from = from; ready = r; at = b .to; before = rw e (b .whole); below = rw e (b .below); malformed = b .malformed }
+    steps-say surplus b = record { framed = g; from = from; ready = r; at = b .to; before = b .whole; remain = b .remain }
+    steps-say (placed ps) b = record { framed = g; from = from; ready = r; steps = length ps; few = b .few; all = b .whole }
+
+  behind-says : (o : Opened) → FrontSays f o → FileSays f (behindFront f o)
+  behind-says (Faulty Length) s = s
+  behind-says (Faulty Version) s = s
+  behind-says (Faulty Body) s = s
+  behind-says (Faulty Kind) s = s
+  behind-says (Faulty Parameter) s = s
+  behind-says (Faulty (Step k)) s = absurd s
+  behind-says (Faulty Surplus) s = absurd s
+  behind-says (Open p from) s =
+      behind-open (FileSays f) p from
+      (λ S l make. steps-say l make from (s .framed) (s .ready) (placesFrom (kindOf p) limit.steps f from 0)
+      (rw (← s .kind) (places-say (getD f 3 0) f limit.steps from 0 (ready-inside (s .framed) (s .ready)))))
+
+  pub file-says : FileSays f (decode f)
+  unfolding decode
+  file-says = behind-says (openedOf f) (front-says f)
+
+  pub says : (d : Decoded) → decode f ≡ d → FileSays f d
+  says d e = rw e at file-says
+
+  -- ---- from the file to the answer
+
+  front-given : (fault : Fault) → openedOf f ≡ Faulty fault → decode f ≡ faulty fault
+  unfolding decode
+  front-given fault e = rw e
+
+  -- what holds of the steps of any language behind the front holds of the file
+  open-given : (P : Decoded → Type 0) (from : ℕ) → Framed f → Ready f from
+      → ((S : Type 0) (l : Language S) (make : List S → Schedule) → P (withSteps l f make (placesFrom (getD f 3 0) limit.steps f from 0))) → P (decode f)
+  unfolding decode
+  open-given P from g r h =
+      let o = ready-opened f g r in
+      rw (o .opened) (behind-open P (o .params) from (λ S l make. rw (← o .kind) (h S l make)))
+
+  step-given : (k : ℕ) → BrokenStep f k → decode f ≡ faulty (Step k)
+  step-given k b =
+      open-given (λ d. d ≡ faulty (Step k)) (b .from) (b .framed) (b .ready)
+      (λ S l make. rw (broken-placed (getD f 3 0) f limit.steps 0 (b .before) (b .below) (b .malformed), zero-add))
+
+  surplus-given : SurplusBytes f → decode f ≡ faulty Surplus
+  surplus-given b =
+      open-given (λ d. d ≡ faulty Surplus) (b .from) (b .framed) (b .ready)
+      (λ S l make. rw (surplus-placed (getD f 3 0) f 0 (b .before) (b .remain)))
+
+  sound-given : WellFormed f → (s : Schedule) × (decode f ≡ good s)
+  sound-given w =
+      open-given (λ d. (s : Schedule) × (d ≡ good s)) (w .from) (w .framed) (w .ready)
+      (λ S l make. let p = whole-placed (getD f 3 0) f limit.steps 0 (w .all) (w .few) in (make (map (stepAt l f) (p .list)), rw (p .are)))
+
+pub faults-given : (f : List ℕ) → FaultsGiven f
+faults-given f =
+    record {
+      code1 = record { when = says f (faulty Length); given = λ w. front-given f Length (length-opened f w) };
+      code2 = record { when = says f (faulty Version); given = λ w. front-given f Version (version-opened f w) };
+      code3 = record { when = says f (faulty Body); given = λ w. front-given f Body (body-opened f w) };
+      code4 = record { when = says f (faulty Kind); given = λ w. front-given f Kind (kind-opened f w) };
+      code5 = record { when = says f (faulty Parameter); given = λ w. front-given f Parameter (parameter-opened f w) };
+      code6 = λ k. record { when = says f (faulty (Step k)); given = step-given f k };
+      code7 = record { when = says f (faulty Surplus); given = surplus-given f };
+      none = λ s. says f (good s);
+      sound = sound-given f;
+    }
