@@ -1,3 +1,9 @@
 pub mod Writes
 pub mod Moved
 pub mod Answering
+pub mod Inductive
+pub mod Sounds
+pub mod Refines
+pub mod Demands
+pub mod Refuted
+pub mod Tabled

@@ -5,3 +5,4 @@ pub mod Image
 pub mod Single
 pub mod Refined
 pub mod Demand
+pub mod Cases

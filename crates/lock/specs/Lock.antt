@@ -23,20 +23,20 @@ use Rattle.lock.specs.declared.entry.Entry.the-variants.{Withdrawn, Gran
 abbrev pub zeroCell : Cell
 zeroCell = record { count = 0; pending = 0; guards = 0 }
 
-abbrev pub unlocked : ℕ → ℕ → Bool → State
-unlocked width t stored =
+abbrev pub emptyLock : ℕ → ℕ → Bool → State
+emptyLock width t stored =
     record {
       head = record { t = t; width = width; cursor = 0; locked = false; stored = stored; pending = false; guard = false };
       cells = replicate limit.width zeroCell;
     }
 
 abbrev pub freshState : ℕ → ℕ → State
-freshState width t = unlocked width t true
+freshState width t = emptyLock width t true
 
 abbrev pub freshOf : ℕ → ℕ → Made
 freshOf width t =
-    cond (eqb width 0) (record { state = unlocked 0 0 false; code = code.parameter })
-    (cond (ltb limit.width width) (record { state = unlocked 0 0 false; code = code.parameter })
+    cond (eqb width 0) (record { state = emptyLock 0 0 false; code = code.parameter })
+    (cond (ltb limit.width width) (record { state = emptyLock 0 0 false; code = code.parameter })
     (record { state = freshState width t; code = code.accepted }))
 
 -- ---------- the tests: those on the head, then those on the cell that the step looks at

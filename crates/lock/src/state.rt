@@ -2,9 +2,13 @@
 use schedule::codes;
 use schedule::limits;
 ghost use mathlib.Core.Path.{_≡_};
+ghost use Prim.Native.Nat.{_+_, _*_, _≤_};
+ghost use lib.ListN.{length, take};
 ghost use Rattle.rows.specs.Stores.{Laid};
-ghost use Rattle.lock.specs.Lock.{freshOf};
-ghost use Rattle.lock.specs.Image.{imageBytes, cellBytes, used};
+ghost use Rattle.rows.specs.Walk.{pieces};
+ghost use Rattle.schedule.specs.Limits as limit;
+ghost use Rattle.lock.specs.Lock.{emptyLock, freshOf};
+ghost use Rattle.lock.specs.Image.{imageBytes, headBytes, cellBytes, inUse};
 
 // A cell's count: the readers that announced themselves and have not released. Of them `pending` have no guard yet.
 pub struct Cell {
@@ -48,7 +52,9 @@ pub fn fresh(width: u8, t: u32) -> Made
 }
 
 // No writer, no reader.
-fn unlocked(width: u8, t: u32, stored: bool, code: u8) -> Made {
+fn unlocked(width: u8, t: u32, stored: bool, code: u8) -> Made
+    ensures { λ r. ⌜ r ≡ record { state = emptyLock width t stored; code = code } ⌝ }
+{
     let head = Head {
         t,
         width,
@@ -66,4 +72,63 @@ fn unlocked(width: u8, t: u32, stored: bool, code: u8) -> Made {
     let cells = [none; limits::WIDTH];
     let state = State { head, cells };
     Made { state, code }
+}
+
+// The image at the front of the buffer, or nothing where it does not fit; the answer is its length.
+pub fn image(s: State, out: &mut [u8]) -> usize
+    ensures { λ r. ⌜ Laid (now (out .entry)) 0 (imageBytes s) r (now (out .exit)) ⌝ }
+{
+    let h = s.head;
+    let n = cells_used(h.width);
+    if out.len() < 9 + 3 * n {
+        return 0;
+    }
+    let a = put_head(out, h);
+    put_cells(out, a, s, n)
+}
+
+// How many cells are in use: the width, and in a made-up state no more than there are.
+fn cells_used(width: u8) -> usize
+    ensures { λ r. ⌜ r ≡ inUse width ⌝ }
+{
+    let n = width as usize;
+    if n < limits::WIDTH {
+        return n;
+    }
+    limits::WIDTH
+}
+
+fn put_head(out: &mut [u8], h: Head) -> usize
+    ensures { λ r. ⌜ Laid (now (out .entry)) 0 (headBytes h) r (now (out .exit)) ⌝ }
+{
+    if out.len() < 9 {
+        return 0;
+    }
+    let a = rows::put1(out, 0, h.locked as u8);
+    let b = rows::put1(out, a, h.stored as u8);
+    let c = rows::put4(out, b, h.t);
+    let d = rows::put1(out, c, h.pending as u8);
+    let e = rows::put1(out, d, h.cursor);
+    rows::put1(out, e, h.guard as u8)
+}
+
+// The first n cells from a place of the buffer on, three bytes each.
+fn put_cells(out: &mut [u8], at: usize, s: State, n: usize) -> usize
+    requires { ⌜ n ≤ limit.width ⌝ }
+    requires { ⌜ at + 3 * n ≤ length (now out) ⌝ }
+    ensures { λ r. ⌜ Laid (now (out .entry)) at (pieces cellBytes (take n (s .cells))) r (now (out .exit)) ⌝ }
+{
+    let mut i: usize = 0;
+    let mut p = at;
+    while i < n {
+        let c = s.cells[i];
+        out[p] = c.count;
+        p += 1;
+        out[p] = c.pending;
+        p += 1;
+        out[p] = c.guards;
+        p += 1;
+        i += 1;
+    }
+    p
 }

@@ -7,3 +7,4 @@ pub mod Walks
 pub mod Masks
 pub mod Tables
 pub mod Settled
+pub mod Testing

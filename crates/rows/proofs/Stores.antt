@@ -109,3 +109,10 @@ module _ (l : List ℕ) (i : ℕ) where
   number-back w n small h =
       let long = length-big w n in
       ap number (rw long at (bytes-back (big w n) (omega arith))) ∙ spelled w n small
+
+-- a writer behind stores at a moving place
+pub stores-then : (l : List ℕ) (i : ℕ) (xs ys : List ℕ) (j r : ℕ) (l′ : List ℕ) → i + length (xs ++ ys) ≤ length l → j ≡ i + length xs → Laid (puts l i xs) j ys r l′
+    → Laid l i (xs ++ ys) r l′
+stores-then l i xs ys j r l′ h e k =
+    let fits : i + length xs ≤ length l = omega (arith, length-append xs ys) in
+    laid-then l i xs ys j (puts l i xs) r l′ h (whole-laid l i xs j (puts l i xs) fits e refl) k

@@ -1,0 +1,106 @@
+-- How a state stands for the source's, and what is proved of the two: proofs/Refines.antt and proofs/Sounds.antt. Assumes nothing.
+use Prim.Native.Nat.{ℕ, _+_, _≤_, _<_}
+use mathlib.Core.Path.{_≡_}
+use mathlib.Core.Bool.{Bool, true, false, cond}
+use mathlib.Core.List.{List, [], _∷_}
+use mathlib.Core.Option.{Option, none, some}
+use lib.Dec.{eqb, ltb}
+use lib.ListN.{length}
+use Rattle.machine.specs.Machine.{Accepted}
+use Rattle.schedule.specs.Limits as limit
+use Rattle.schedule.specs.declared.steps.LockStep.{LockStep}
+use Rattle.schedule.specs.declared.steps.LockStep.the-variants.{ExcStart, ExcCheckCount, ExcFinish, ExcRelease, SharedStart, SharedFinish, SharedRelease}
+use Rattle.lock.specs.Source as source
+use Rattle.lock.specs.Source.{DistRwLock, Initialize, Transition, Moves, Safe}
+use Rattle.lock.specs.Invariants.{Invariants, New, do-guard}
+use Rattle.lock.specs.Lock.{lock, zeroCell, freshState, cell, next, logs}
+use Rattle.lock.specs.Sound.{sound}
+use Rattle.lock.specs.declared.state.State.{State}
+use Rattle.lock.specs.declared.entry.Entry.{Entry}
+use Rattle.lock.specs.declared.entry.Entry.the-variants.{Withdrawn, Granted}
+
+-- all guards carry the record in store, so a cell's guards are a count
+abbrev pub abs : State → DistRwLock
+abs s =
+    record {
+      rc-width = s .head .width;
+      storage = cond (s .head .stored) (some (s .head .t)) none;
+      exc-locked = s .head .locked;
+      ref-counts = λ i. cond (ltb i (s .head .width)) (some (cell s i .count)) none;
+      exc-pending = cond (s .head .pending) (some (s .head .cursor)) none;
+      exc-guard = cond (s .head .guard) (some tt) none;
+      shared-pending = λ r. cell s r .pending;
+      shared-guard = λ v. cond (eqb (v .1) (s .head .t)) (cell s (v .0) .guards) 0;
+    }
+
+abbrev pub label : LockStep → Transition
+label ExcStart = source.exc-start
+label ExcCheckCount = source.exc-check-count
+label ExcFinish = source.exc-finish
+label (ExcRelease t) = source.exc-release t
+label (SharedStart r) = source.shared-start r
+label (SharedFinish r) = source.shared-finish r
+label (SharedRelease r t) = source.shared-release (r, t)
+
+-- ---------- soundness: the source's invariants, the limits, unused entries zero
+
+pub record Sound (s : State) : Type 0 where
+  pub inv : Invariants (abs s)
+  -- the row is whole, the width and the counts are in their limits
+  pub whole : length (s .cells) ≡ limit.width
+  pub width : s .head .width ≤ limit.width
+  pub counts : (r : ℕ) → cell s r .count ≤ limit.counter
+  -- a cell that is not in use, the record while none is stored, the cursor while no writer is pending
+  pub unused-cells : (r : ℕ) → s .head .width ≤ r → cell s r ≡ zeroCell
+  pub unused-record : s .head .stored ≡ false → s .head .t ≡ 0
+  pub unused-cursor : s .head .pending ≡ false → s .head .cursor ≡ 0
+
+-- ---------- enabled: the source's transition leads somewhere, and the counter's limit is not reached
+
+abbrev pub AtLimit : State → LockStep → Type 0
+AtLimit s ExcStart = ⊥
+AtLimit s ExcCheckCount = ⊥
+AtLimit s ExcFinish = ⊥
+AtLimit s (ExcRelease t) = ⊥
+AtLimit s (SharedStart r) = cell s r .count ≡ limit.counter
+AtLimit s (SharedFinish r) = ⊥
+AtLimit s (SharedRelease r t) = ⊥
+
+pub record Enabled (s : State) (x : LockStep) : Type 0 where
+  pub to : DistRwLock
+  pub moves : Moves (abs s) (label x) to
+  pub below : AtLimit s x → ⊥
+
+-- what the source hands out: exc_finish the record that it withdraws, shared_finish a guard with the record in store
+abbrev pub HandsOut : DistRwLock → Transition → List Entry → Type 0
+HandsOut pre source.exc-start es = es ≡ []
+HandsOut pre source.exc-check-count es = es ≡ []
+HandsOut pre source.exc-finish es = (t : ℕ) × (pre .storage ≡ some t) × (es ≡ Withdrawn t ∷ [])
+HandsOut pre (source.exc-release t) es = es ≡ []
+HandsOut pre (source.shared-start r) es = es ≡ []
+HandsOut pre (source.shared-finish r) es = (t : ℕ) × (pre .storage ≡ some t) × (es ≡ Granted r t ∷ [])
+HandsOut pre (source.shared-release val) es = es ≡ []
+
+-- ---------- what is proved
+
+pub record Refines : Type 0 where
+  -- a fresh lock of any width in its limits is the source's, with width and record tied to what was asked, and sound
+  pub fresh-initialize : (w t : ℕ) → 1 ≤ w → w ≤ limit.width → Initialize w t (abs (freshState w t))
+  pub fresh-new : (w t : ℕ) → 1 ≤ w → w ≤ limit.width → New w t (abs (freshState w t))
+  pub fresh-sound : (w t : ℕ) → 1 ≤ w → w ≤ limit.width → sound (freshState w t) ≡ true
+  -- the test is the record, where the row is whole, as every row of the code is
+  pub sound-told : (s : State) → length (s .cells) ≡ limit.width → sound s ≡ true → Sound s
+  pub told-sound : (s : State) → Sound s → sound s ≡ true
+  -- of a sound state: a step is accepted exactly when it is enabled ..
+  pub accepted-enabled : (s : State) (x : LockStep) → Sound s → Accepted lock s x → Enabled s x
+  pub enabled-accepted : (s : State) (x : LockStep) → Sound s → Enabled s x → Accepted lock s x
+  -- .. and then does what the source says: the state after is the source's, and the log is what the source hands out
+  pub accepted-moves : (s : State) (x : LockStep) → Sound s → Accepted lock s x → Moves (abs s) (label x) (abs (next s x))
+  pub accepted-post : (s : State) (x : LockStep) (to : DistRwLock) → Sound s → Accepted lock s x → Moves (abs s) (label x) to → to ≡ abs (next s x)
+  pub accepted-logs : (s : State) (x : LockStep) → Sound s → Accepted lock s x → HandsOut (abs s) (label x) (logs s x)
+  pub accepted-safe : (s : State) (x : LockStep) → Sound s → Accepted lock s x → Safe (abs s) (label x)
+  -- accepted steps keep soundness
+  pub accepted-sound : (s : State) (x : LockStep) → Sound s → Accepted lock s x → Sound (next s x)
+  -- a guard's value is the stored one, and the guards are a count at the stored record and none elsewhere
+  pub guards-stored : (s : State) → Sound s → do-guard (abs s)
+  pub guards-counted : (s : State) → Sound s → (r t : ℕ) → (t ≡ s .head .t → ⊥) → abs s .shared-guard (r, t) ≡ 0
