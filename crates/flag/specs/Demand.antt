@@ -1,0 +1,71 @@
+-- Demand 3's share of the flag, said of an accepted history alone. Proved in proofs/Demands.antt. Assumes nothing.
+use Prim.Native.Nat.{ℕ, zero, suc, _≤_}
+use mathlib.Core.Path.{_≡_}
+use mathlib.Core.Bool.{Bool, true, false, not}
+use mathlib.Core.List.{List, [], _∷_, _++_}
+use lib.Dec.{eqb}
+use Rattle.machine.specs.History.{Event, History, Run, did#, logged#}
+use Rattle.schedule.specs.Limits as limit
+use Rattle.schedule.specs.declared.steps.FlagStep.{FlagStep}
+use Rattle.schedule.specs.declared.steps.FlagStep.the-variants.{Begin, Move, Read}
+use Rattle.flag.specs.Flag.{flag, emptyFlag}
+use Rattle.flag.specs.declared.state.State.{State}
+use Rattle.flag.specs.declared.entry.Entry.{Entry}
+use Rattle.flag.specs.declared.entry.Entry.the-variants.{Flip, Saw}
+
+abbrev pub Hist : Type 0
+Hist = History flag
+
+abbrev pub event : FlagStep → List Entry → Event FlagStep Entry
+event x es = record { did = x; wrote = es }
+
+-- ---------- what is counted
+
+abbrev pub beginsOf : ℕ → FlagStep → Bool
+beginsOf k (Begin j) = eqb k j
+beginsOf k (Move j) = false
+beginsOf k (Read j) = false
+
+abbrev pub flipOf : ℕ → Entry → Bool
+flipOf k (Flip j) = eqb k j
+flipOf k (Saw j v) = false
+
+abbrev pub anyFlip : Entry → Bool
+anyFlip (Flip j) = true
+anyFlip (Saw j v) = false
+
+-- the flips that thread k began, those logged for it, those logged for anyone
+abbrev pub begins : Hist → ℕ → ℕ
+begins h k = did# (beginsOf k) h
+
+abbrev pub flips : Hist → ℕ → ℕ
+flips h k = logged# (flipOf k) h
+
+abbrev pub allFlips : Hist → ℕ
+allFlips h = logged# anyFlip h
+
+-- v turned n times
+abbrev pub turned : ℕ → Bool → Bool
+turned zero v = v
+turned (suc n) v = not (turned n v)
+
+-- after h thread k has no flip under way: its read is accepted there
+abbrev pub MayRead : State → Hist → ℕ → Type 0
+MayRead s₀ h k = (es : List Entry) × (s : State) × Run flag s₀ (event (Read k) es ∷ h) s
+
+-- ---------- the demand. A flip of k runs from its begin to the thread's next begin
+
+pub record Demand (s₀ : State) (v₀ : Bool) (h : Hist) : Type 0 where
+  -- no thread has more flips logged than begun
+  pub none-unbegun : (k : ℕ) → flips h k ≤ begins h k
+  -- a flip is logged at most once, and never by its own begin
+  pub at-most-once : (k : ℕ) (during before : Hist) (es : List Entry) → h ≡ during ++ (event (Begin k) es ∷ before) → begins during k ≡ 0
+      → (es ≡ []) × (flips during k ≤ 1)
+  -- a finished one, also a helped or cancelled one, exactly once, by a step after its beginning and not after its end
+  pub finished-once : (k : ℕ) (later during before : Hist) (es : List Entry) → h ≡ later ++ (during ++ (event (Begin k) es ∷ before)) → begins during k ≡ 0 → begins later k ≡ 0
+      → MayRead s₀ (during ++ (event (Begin k) es ∷ before)) k → (flips during k ≡ 1) × (flips later k ≡ 0)
+  -- each read shows the initial value turned once for every flip logged before it
+  pub reads : (k : ℕ) (later before : Hist) (es : List Entry) → h ≡ later ++ (event (Read k) es ∷ before) → es ≡ Saw k (turned (allFlips before) v₀) ∷ []
+
+abbrev pub Demanded : Type 0
+Demanded = (n : ℕ) (v₀ : Bool) → 1 ≤ n → n ≤ limit.threads → (h : Hist) (s : State) → Run flag (emptyFlag n v₀) h s → Demand (emptyFlag n v₀) v₀ h

@@ -1,0 +1,7 @@
+pub mod Flag
+pub mod Image
+pub mod Sound
+pub mod Single
+pub mod Source
+pub mod Refined
+pub mod Demand

@@ -1,0 +1,124 @@
+// One move of a thread, shared by the single step and by the replay loop: from its place and the flag's head to its next place, as the source's
+// loop goes on after the exchange that the place stands before.
+use schedule::codes;
+use schedule::limits;
+ghost use mathlib.Core.Path.{_≡_};
+ghost use lib.Dec.{leb};
+ghost use Rattle.machine.specs.Check.{first};
+ghost use Rattle.machine.specs.Move.{moveCode};
+ghost use Rattle.flag.specs.Flag.{insideTests, idleTests, busyTests, went, owner};
+
+// Whose flips a move carries out.
+pub enum Flips {
+    Nobody,
+    Mover,
+    // that of the thread which offers its flip, and the mover's: they cancel each other
+    Both,
+}
+
+// Where a move leads: the thread's place and the flag's head.
+pub struct Went {
+    pub place: u8,
+    pub pending: u8,
+    pub value: bool,
+    pub flips: Flips,
+}
+
+// k is a thread of the flag.
+pub fn inside(threads: u8, k: u8) -> u8
+    ensures { λ r. ⌜ r ≡ first (insideTests threads k) ⌝ }
+{
+    if k < threads {
+        return codes::ACCEPTED;
+    }
+    codes::OUTSIDE
+}
+
+// begin and read need an idle thread.
+pub fn may_begin(place: u8) -> u8
+    ensures { λ r. ⌜ r ≡ first (idleTests place) ⌝ }
+{
+    if place == 0 {
+        return codes::ACCEPTED;
+    }
+    codes::PHASE
+}
+
+// A move needs a thread in its flip; a place that no thread has is not sound.
+pub fn may_move(place: u8) -> u8
+    ensures { λ r. ⌜ r ≡ moveCode (busyTests place) (leb place 6) ⌝ }
+{
+    if place == 0 {
+        return codes::PHASE;
+    }
+    if place <= 6 {
+        return codes::ACCEPTED;
+    }
+    codes::UNSOUND
+}
+
+fn to(place: u8, pending: u8, value: bool, flips: Flips) -> Went
+    ensures { λ r. ⌜ r ≡ record { place = place; pending = pending; value = value; flips = flips } ⌝ }
+{
+    Went {
+        place,
+        pending,
+        value,
+        flips,
+    }
+}
+
+// Each place's exchange, and where the loop goes when it succeeds and when it fails.
+pub fn exchange(place: u8, pending: u8, value: bool) -> Went
+    ensures { λ r. ⌜ r ≡ went place pending value ⌝ }
+{
+    if place == 1 {
+        if pending == 1 {
+            return to(0, 2, value, Flips::Both);
+        }
+        return to(2, pending, value, Flips::Nobody);
+    }
+    if place == 2 {
+        if value {
+            return to(0, pending, false, Flips::Mover);
+        }
+        return to(3, pending, value, Flips::Nobody);
+    }
+    if place == 3 {
+        if value {
+            return to(4, pending, value, Flips::Nobody);
+        }
+        return to(0, pending, true, Flips::Mover);
+    }
+    if place == 4 {
+        if pending == 0 {
+            return to(5, 1, value, Flips::Nobody);
+        }
+        return to(1, pending, value, Flips::Nobody);
+    }
+    if place == 5 {
+        if pending == 1 {
+            return to(1, 0, value, Flips::Nobody);
+        }
+        return to(6, pending, value, Flips::Nobody);
+    }
+    if place == 6 {
+        return to(0, 0, value, Flips::Nobody);
+    }
+    to(place, pending, value, Flips::Nobody)
+}
+
+// The first thread that offers its flip, found only when the flip is taken.
+pub fn offering(places: [u8; limits::THREADS]) -> u8
+    ensures { λ r. ⌜ r ≡ owner places ⌝ }
+{
+    let mut i: u8 = 0;
+    while i < limits::THREADS as u8 {
+        let at = i as usize;
+        if places[at] == 5 {
+            return i;
+        }
+        i += 1;
+    }
+    i
+}
