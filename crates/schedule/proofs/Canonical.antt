@@ -13,9 +13,10 @@ use Rattle.schedule.specs.Canonical.{WrittenAgain, ReadBack, OnlyInLimit
 use Rattle.schedule.specs.declared.steps.Params.the-variants.{Flat, Lock, Counting, Flag}
 use Rattle.schedule.specs.declared.front.Opened.{Opened}
 use Rattle.schedule.specs.declared.front.Opened.the-variants.{Faulty, Open}
+use Rattle.schedule.proofs.FrontSays.{FrontSays, front-says}
 use Rattle.schedule.proofs.Languages.{flat-lawful, lock-lawful, counting-lawful, flag-lawful}
 use Rattle.schedule.proofs.AllSteps.{steps-short, steps-read, told}
-use Rattle.schedule.proofs.Fronts.{Says, front-read, front-says, front-again}
+use Rattle.schedule.proofs.FrontBytes.{front-read, front-allowed, front-again}
 
 -- ---- from the file to the schedule and back
 
@@ -23,27 +24,27 @@ record Canonical (f : List ℕ) (s : Schedule) : Type 0 where
   again : encode s ≡ f
   within : InLimits s
 
-behind : (f : List ℕ) (s : Schedule) → Bytes f → (o : Opened) → Says f o → behindFront f o ≡ good s → Canonical f s
+behind : (f : List ℕ) (s : Schedule) → Bytes f → (o : Opened) → FrontSays f o → behindFront f o ≡ good s → Canonical f s
 unfolding encode
 behind f s bytes (Faulty fault) h e = clash (cc)
 behind f s bytes (Open (Flat n) at) h e =
     let t = told flat flat-lawful f bytes (ofFlat n) s limit.steps at 0 e in
-    record { again = rw (t .made) (front-again f (Flat n) at _ h (t .again)); within = rw (t .made) (h .allowed, t .few, t .fit) }
+    record { again = rw (t .made) (front-again f bytes (Flat n) at h _ (t .again)); within = rw (t .made) (front-allowed f bytes (Flat n) at h, t .few, t .fit) }
 behind f s bytes (Open (Lock n v) at) h e =
     let t = told lock lock-lawful f bytes (ofLock n v) s limit.steps at 0 e in
-    let a = h .allowed in
-    record { again = rw (t .made) (front-again f (Lock n v) at _ h (t .again)); within = rw (t .made) (a .0, a .1, a .2, t .few, t .fit) }
+    let a = front-allowed f bytes (Lock n v) at h in
+    record { again = rw (t .made) (front-again f bytes (Lock n v) at h _ (t .again)); within = rw (t .made) (a .0, a .1, a .2, t .few, t .fit) }
 behind f s bytes (Open Counting at) h e =
     let t = told counting counting-lawful f bytes ofCounting s limit.steps at 0 e in
-    record { again = rw (t .made) (front-again f Counting at _ h (t .again)); within = rw (t .made) (t .few, t .fit) }
+    record { again = rw (t .made) (front-again f bytes Counting at h _ (t .again)); within = rw (t .made) (t .few, t .fit) }
 behind f s bytes (Open (Flag n v) at) h e =
     let t = told flag flag-lawful f bytes (ofFlag n v) s limit.steps at 0 e in
-    let a = h .allowed in
-    record { again = rw (t .made) (front-again f (Flag n v) at _ h (t .again)); within = rw (t .made) (a .0, a .1, t .few, t .fit) }
+    let a = front-allowed f bytes (Flag n v) at h in
+    record { again = rw (t .made) (front-again f bytes (Flag n v) at h _ (t .again)); within = rw (t .made) (a .0, a .1, t .few, t .fit) }
 
 canonical : (f : List ℕ) (s : Schedule) → Bytes f → decode f ≡ good s → Canonical f s
 unfolding decode
-canonical f s bytes e = behind f s bytes (openedOf f) (front-says f bytes) e
+canonical f s bytes e = behind f s bytes (openedOf f) (front-says f) e
 
 pub written-again : WrittenAgain
 written-again f s bytes e = canonical f s bytes e .again

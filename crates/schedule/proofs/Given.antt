@@ -3,7 +3,10 @@ use mathlib.Core.Path.{_≡_, _∙_}
 use mathlib.Core.List.{List, map}
 use Prim.Native.Nat.{ℕ, _≤_}
 use native.Mathlib.Nat.{zero-add}
+use native.Mathlib.Omega.{arith}
+use lib.Dec.{eqb}
 use lib.ListN.{length, getD}
+use Rattle.rows.specs.Bytes.{numberAt}
 use Rattle.schedule.specs.Limits as limit
 use Rattle.schedule.specs.Language.{Language, stepAt}
 use Rattle.schedule.specs.Spelling.{flat, lock, counting, flag}
@@ -11,14 +14,12 @@ use Rattle.schedule.specs.Reading.{Placed, broken, surplus, placed, plac
 use Rattle.schedule.specs.Front.{openedOf}
 use Rattle.schedule.specs.Schedule.{Schedule, ofFlat, ofLock, ofCounting, ofFlag, Decoded, faulty, good, withSteps, behindFront, decode}
 use Rattle.schedule.specs.Given.{WrongLength, WrongVersion, LongBody, Framed, UnknownKind, Ready, flatReady, lockReady, countingReady, flagReady, WrongParameter, BrokenStep, SurplusBytes, WellFormed, FaultsGiven}
-use Rattle.schedule.specs.declared.steps.Params.{Params}
-use Rattle.schedule.specs.declared.steps.Params.the-variants.{Flat, Lock, Counting, Flag}
 use Rattle.schedule.specs.declared.front.Fault.{Fault}
 use Rattle.schedule.specs.declared.front.Fault.the-variants.{Length, Version, Body, Kind, Parameter, Step, Surplus}
 use Rattle.schedule.specs.declared.front.Opened.{Opened}
 use Rattle.schedule.specs.declared.front.Opened.the-variants.{Faulty, Open}
-use Rattle.schedule.proofs.Walked.{PlacesSay, places-say, broken-placed, surplus-placed, whole-placed}
-use Rattle.schedule.proofs.Opening.{kindOf, FrontSays, front-says, ready-opened, length-opened, version-opened, body-opened, kind-opened, parameter-opened}
+use Rattle.schedule.proofs.PlacesSay.{placesOf, whole-inside, PlacesSay, places-say, broken-placed, surplus-placed, whole-placed}
+use Rattle.schedule.proofs.FrontSays.{paramsOf, FrontSays, front-says, ready-opened, length-opened, version-opened, body-opened, kind-opened, parameter-opened}
 
 -- what each answer says of the file: the table, line by line
 abbrev pub FileSays : List ℕ → Decoded → Type 0
@@ -38,14 +39,14 @@ ready-inside g (countingReady k) = g .sized .long
 ready-inside g (flagReady k l m n v) = l
 
 module _ (f : List ℕ) where
-  -- what holds of the steps of any language behind the front holds behind an open front
-  behind-open : (P : Decoded → Type 0) (p : Params) (from : ℕ)
-      → ((S : Type 0) (l : Language S) (make : List S → Schedule) → P (withSteps l f make (placesFrom (kindOf p) limit.steps f from 0)))
-      → P (behindFront f (Open p from))
-  behind-open P (Flat n) from h = h _ flat (ofFlat n)
-  behind-open P (Lock n t) from h = h _ lock (ofLock n t)
-  behind-open P Counting from h = h _ counting ofCounting
-  behind-open P (Flag n v) from h = h _ flag (ofFlag n v)
+  -- what holds of the steps of any language holds behind a front that is ready
+  behind-ready : (P : Decoded → Type 0) {from : ℕ} (r : Ready f from)
+      → ((S : Type 0) (l : Language S) (make : List S → Schedule) → P (withSteps l f make (placesFrom (getD f 3 0) limit.steps f from 0)))
+      → P (behindFront f (Open (paramsOf f r) from))
+  behind-ready P (flatReady k l n) h = rw k at (h _ flat (ofFlat (getD f 4 0)))
+  behind-ready P (lockReady k l m n) h = rw k at (h _ lock (ofLock (getD f 4 0) (numberAt f 5 4)))
+  behind-ready P (countingReady k) h = rw k at (h _ counting ofCounting)
+  behind-ready P (flagReady k l m n v) h = rw k at (h _ flag (ofFlag (getD f 4 0) (eqb (getD f 5 0) 1)))
 
   -- ---- from the answer to the file
 
@@ -55,7 +56,9 @@ module _ (f : List ℕ) where
         let e : k ≡ b .before = b .index ∙ zero-add (b .before) in
         record { framed = g; from = from; ready = r; at = b .to; before = rw e (b .whole); below = rw e (b .below); malformed = b .malformed }
     steps-say surplus b = record { framed = g; from = from; ready = r; at = b .to; before = b .whole; remain = b .remain }
-    steps-say (placed ps) b = record { framed = g; from = from; ready = r; steps = length ps; few = b .few; all = b .whole }
+    steps-say (placed ps) b =
+        let e : b .to ≡ length f = omega (arith, b .over, whole-inside (getD f 3 0) f (ready-inside g r) (b .whole)) in
+        record { framed = g; from = from; ready = r; steps = b .steps; few = b .few; all = rw e at (b .whole) }
 
   behind-says : (o : Opened) → FrontSays f o → FileSays f (behindFront f o)
   behind-says (Faulty Length) s = s
@@ -66,9 +69,10 @@ module _ (f : List ℕ) where
   behind-says (Faulty (Step k)) s = absurd s
   behind-says (Faulty Surplus) s = absurd s
   behind-says (Open p from) s =
-      behind-open (FileSays f) p from
-      (λ S l make. steps-say l make from (s .framed) (s .ready) (placesFrom (kindOf p) limit.steps f from 0)
-      (rw (← s .kind) (places-say (getD f 3 0) f limit.steps from 0 (ready-inside (s .framed) (s .ready)))))
+      let ps = placesFrom (getD f 3 0) limit.steps f from 0 in
+      rw (s .params)
+      (behind-ready (FileSays f) (s .ready)
+      (λ S l make. steps-say l make from (s .framed) (s .ready) ps (places-say (getD f 3 0) f limit.steps from 0)))
 
   pub file-says : FileSays f (decode f)
   unfolding decode
@@ -83,28 +87,26 @@ module _ (f : List ℕ) where
   unfolding decode
   front-given fault e = rw e
 
-  -- what holds of the steps of any language behind the front holds of the file
-  open-given : (P : Decoded → Type 0) (from : ℕ) → Framed f → Ready f from
+  -- what holds of the steps of any language holds of a file whose front is ready
+  ready-given : (P : Decoded → Type 0) {from : ℕ} → Framed f → Ready f from
       → ((S : Type 0) (l : Language S) (make : List S → Schedule) → P (withSteps l f make (placesFrom (getD f 3 0) limit.steps f from 0))) → P (decode f)
   unfolding decode
-  open-given P from g r h =
-      let o = ready-opened f g r in
-      rw (o .opened) (behind-open P (o .params) from (λ S l make. rw (← o .kind) (h S l make)))
+  ready-given P g r h = rw (ready-opened f g r) (behind-ready P r h)
 
   step-given : (k : ℕ) → BrokenStep f k → decode f ≡ faulty (Step k)
   step-given k b =
-      open-given (λ d. d ≡ faulty (Step k)) (b .from) (b .framed) (b .ready)
+      ready-given (λ d. d ≡ faulty (Step k)) (b .framed) (b .ready)
       (λ S l make. rw (broken-placed (getD f 3 0) f limit.steps 0 (b .before) (b .below) (b .malformed), zero-add))
 
   surplus-given : SurplusBytes f → decode f ≡ faulty Surplus
   surplus-given b =
-      open-given (λ d. d ≡ faulty Surplus) (b .from) (b .framed) (b .ready)
+      ready-given (λ d. d ≡ faulty Surplus) (b .framed) (b .ready)
       (λ S l make. rw (surplus-placed (getD f 3 0) f 0 (b .before) (b .remain)))
 
   sound-given : WellFormed f → (s : Schedule) × (decode f ≡ good s)
   sound-given w =
-      open-given (λ d. (s : Schedule) × (d ≡ good s)) (w .from) (w .framed) (w .ready)
-      (λ S l make. let p = whole-placed (getD f 3 0) f limit.steps 0 (w .all) (w .few) in (make (map (stepAt l f) (p .list)), rw (p .are)))
+      ready-given (λ d. (s : Schedule) × (d ≡ good s)) (w .framed) (w .ready)
+      (λ S l make. (make (map (stepAt l f) (placesOf (getD f 3 0) f (w .all))), rw (whole-placed (getD f 3 0) f limit.steps 0 (w .all) (omega arith) (w .few))))
 
 pub faults-given : (f : List ℕ) → FaultsGiven f
 faults-given f =

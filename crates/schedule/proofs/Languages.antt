@@ -1,12 +1,12 @@
--- What reading and writing asks of a language of steps, and that each of the four kinds gives it. Assumes nothing.
-use mathlib.Core.Path.{_≡_, refl, sym}
+-- What reading and writing ask of a language of steps, and that each of the four kinds gives it. Assumes nothing.
+use mathlib.Core.Path.{_≡_, refl, sym, ap}
 use mathlib.Core.List.{List, [], _∷_}
 use Prim.Native.Nat.{ℕ, zero, suc, _+_, _≤_, _<_}
 use native.Mathlib.Omega.{arith}
 use lib.ListN.{length, getD, drop}
 use Rattle.rows.proofs.Rows.{drop-one, drop-end}
 use Rattle.schedule.specs.Widths.{widths, widthsOf, lengthOf, numberWidths}
-use Rattle.schedule.specs.Language.{Language}
+use Rattle.schedule.specs.Language.{Language, stepLength, sizeOf}
 use Rattle.schedule.specs.Spelling.{flat, lock, counting, flag}
 use Rattle.schedule.specs.declared.steps.FlatStep.{FlatStep}
 use Rattle.schedule.specs.declared.steps.FlatStep.the-variants.{ClientSend, ClientRecv, CombinerRecv, CombinerSkip, CombinerGoToResponding, CombinerSend, CombinerSendSkip, CombinerGoToCollecting}
@@ -16,6 +16,7 @@ use Rattle.schedule.specs.declared.steps.CountingStep.{CountingStep}
 use Rattle.schedule.specs.declared.steps.CountingStep.the-variants.{WriteableToReadable, ReadableToWriteable, NewRef, DeleteRef}
 use Rattle.schedule.specs.declared.steps.FlagStep.{FlagStep}
 use Rattle.schedule.specs.declared.steps.FlagStep.the-variants.{Begin, Move, Read}
+use Rattle.schedule.proofs.Numbers.{total}
 
 -- of a step: its tag and numbers make it again, its tag takes a byte, and it takes at most 10 bytes behind its length byte
 pub record Spelled {S : Type 0} (l : Language S) (x : S) : Type 0 where
@@ -28,9 +29,24 @@ pub record Kept {S : Type 0} (l : Language S) (t : ℕ) (ns : List ℕ) : Type 0
   pub tag : l .tag (l .step t ns) ≡ t
   pub numbers : l .numbers (l .step t ns) ≡ ns
 
+-- it does wherever the kind has the tag and the tag takes as many numbers
+abbrev pub Keeps : {S : Type 0} → Language S → Type 0
+Keeps l = (t : ℕ) (ns : List ℕ) → 0 < lengthOf (l .kind) t → length ns ≡ length (numberWidths (l .kind) t) → Kept l t ns
+
 pub record Lawful {S : Type 0} (l : Language S) : Type 0 where
   pub spelled : (x : S) → Spelled l x
-  pub kept : (t : ℕ) (ns : List ℕ) → 0 < lengthOf (l .kind) t → length ns ≡ length (numberWidths (l .kind) t) → Kept l t ns
+  pub kept : Keeps l
+
+-- ---- a step's size, as its law has it
+
+module _ {S : Type 0} (l : Language S) (law : Lawful l) (x : S) where
+  -- a byte for the tag, and the bytes of the numbers
+  pub parts : stepLength l x ≡ 1 + total (numberWidths (l .kind) (l .tag x))
+  parts = ap total (law .spelled x .tagged)
+
+  -- a length byte, a tag, and at most nine bytes of numbers
+  pub sized : (2 ≤ sizeOf l x) × (sizeOf l x ≤ 11)
+  sized = (omega (arith, parts), omega (arith, law .spelled x .short))
 
 -- ---- a list of known length, entry by entry, as `step` reads it
 
@@ -58,7 +74,7 @@ flat-spelled (CombinerSend rid resp) = record { again = refl; tagged = refl; sho
 flat-spelled CombinerSendSkip = record { again = refl; tagged = refl; short = omega arith }
 flat-spelled CombinerGoToCollecting = record { again = refl; tagged = refl; short = omega arith }
 
-flat-kept : (t : ℕ) (ns : List ℕ) → 0 < lengthOf (flat .kind) t → length ns ≡ length (numberWidths (flat .kind) t) → Kept flat t ns
+flat-kept : Keeps flat
 unfolding widthsOf widths
 flat-kept zero ns h e = absurd (omega arith)
 flat-kept (suc zero) ns h e = record { tag = refl; numbers = exactly 3 ns e }
@@ -86,7 +102,7 @@ lock-spelled (SharedStart r) = record { again = refl; tagged = refl; short = ome
 lock-spelled (SharedFinish r) = record { again = refl; tagged = refl; short = omega arith }
 lock-spelled (SharedRelease r t) = record { again = refl; tagged = refl; short = omega arith }
 
-lock-kept : (t : ℕ) (ns : List ℕ) → 0 < lengthOf (lock .kind) t → length ns ≡ length (numberWidths (lock .kind) t) → Kept lock t ns
+lock-kept : Keeps lock
 unfolding widthsOf widths
 lock-kept zero ns h e = absurd (omega arith)
 lock-kept (suc zero) ns h e = record { tag = refl; numbers = exactly 0 ns e }
@@ -110,7 +126,7 @@ counting-spelled ReadableToWriteable = record { again = refl; tagged = refl; sho
 counting-spelled NewRef = record { again = refl; tagged = refl; short = omega arith }
 counting-spelled (DeleteRef t) = record { again = refl; tagged = refl; short = omega arith }
 
-counting-kept : (t : ℕ) (ns : List ℕ) → 0 < lengthOf (counting .kind) t → length ns ≡ length (numberWidths (counting .kind) t) → Kept counting t ns
+counting-kept : Keeps counting
 unfolding widthsOf widths
 counting-kept zero ns h e = absurd (omega arith)
 counting-kept (suc zero) ns h e = record { tag = refl; numbers = exactly 1 ns e }
@@ -130,7 +146,7 @@ flag-spelled (Begin k) = record { again = refl; tagged = refl; short = omega ari
 flag-spelled (Move k) = record { again = refl; tagged = refl; short = omega arith }
 flag-spelled (Read k) = record { again = refl; tagged = refl; short = omega arith }
 
-flag-kept : (t : ℕ) (ns : List ℕ) → 0 < lengthOf (flag .kind) t → length ns ≡ length (numberWidths (flag .kind) t) → Kept flag t ns
+flag-kept : Keeps flag
 unfolding widthsOf widths
 flag-kept zero ns h e = absurd (omega arith)
 flag-kept (suc zero) ns h e = record { tag = refl; numbers = exactly 1 ns e }

@@ -1,12 +1,10 @@
+-- `schedule::count::count` meets its contract: each turn keeps what is left to count, and each way out is what the places from there on say. Assumes nothing.
 use Prim.Native.Nat.{_-_}
 use borrow.Author.Needs.{needs}
 use Rattle.schedule.specs.Limits as limit
-use Rattle.schedule.proofs.Counts.{Underway, begins, ends-full, ends-surplus, ends, ends-broken, goes-on}
+use Rattle.schedule.proofs.CountLoop.{Underway, begins, ends-full, ends-surplus, ends, ends-broken, goes-on}
 use Rattle.schedule.proofs.count.count.Statement.{statement}
 use Rattle.schedule.proofs.count.count.Tie as tie
-use Rattle.schedule.proofs.count.count.Reads as reads
-use Rattle.schedule.proofs.count.count.Lts as lts
-use Rattle.schedule.proofs.lengths.measure.Reads as measure-reads
 
 abbrev Inv-loop : tie.InvT-loop
 Inv-loop kind file from at₀ k₀ at k = Underway kind file from at k
@@ -14,51 +12,39 @@ Inv-loop kind file from at₀ k₀ at k = Underway kind file from at k
 abbrev μ-loop : tie.MeasureT-loop
 μ-loop kind file from at₀ k₀ at k = limit.steps - k
 
--- src/count.rt:19:9
 loop-holds : tie.Need-loop-holds Inv-loop μ-loop
 loop-holds c = search begins
 
--- src/count.rt:26:15
 measure-requires : tie.Need-measure-requires Inv-loop μ-loop
 measure-requires c κs = search needs
 
--- src/count.rt:28:23
 enum-told : tie.Need-enum-told Inv-loop μ-loop
 enum-told c = search needs
 
--- src/count.rt:31:39
 enum-told-2 : tie.Need-enum-told-2 Inv-loop μ-loop
 enum-told-2 c = search needs
 
--- src/count.rt:33:31
 enum-known-next : tie.Need-enum-known-next Inv-loop μ-loop
 enum-known-next c = search needs
 
--- src/count.rt:35:17
 add-k : tie.Need-add-k Inv-loop μ-loop
 add-k c = search needs
 
--- src/count.rt:19:9
 loop-less : tie.Need-loop-less Inv-loop μ-loop
 loop-less c = search needs
 
--- src/count.rt:19:9
 loop-again : tie.Need-loop-again Inv-loop μ-loop
 loop-again c = search goes-on
 
--- src/count.rt:14:1
 returns : tie.Need-returns Inv-loop μ-loop
 returns c = search ends-surplus
 
--- src/count.rt:14:1
 returns-2 : tie.Need-returns-2 Inv-loop μ-loop
 returns-2 c = search ends-full
 
--- src/count.rt:14:1
 returns-3 : tie.Need-returns-3 Inv-loop μ-loop
 returns-3 c = search ends
 
--- src/count.rt:14:1
 returns-4 : tie.Need-returns-4 Inv-loop μ-loop
 returns-4 c = search ends-broken
 

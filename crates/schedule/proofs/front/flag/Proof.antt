@@ -1,40 +1,31 @@
+-- `schedule::front::flag` meets its contract: missing bytes, no thread, too many, and a value over 1 are refused in the definition's order. Assumes nothing.
 use native.Mathlib.Omega.{arith}
-use borrow.Author.Tests.{le-leb, lt-leb, lt-ltb, le-ltb, eq-eqb, ne-eqb}
+use borrow.Author.Tests.{lt-ltb, le-ltb, eq-eqb, ne-eqb}
 use borrow.Author.Needs.{needs}
 use Rattle.schedule.proofs.front.flag.Statement.{statement}
 use Rattle.schedule.proofs.front.flag.Tie as tie
-use Rattle.schedule.proofs.front.flag.Reads as reads
-use Rattle.schedule.proofs.front.flag.Lts as lts
 
--- src/front.rt:137:9
 returns : tie.Need-returns
 returns c = rw (lt-ltb _ _ (c .if1 .taken))
 
--- src/front.rt:139:19
 shared-slice-read-threads : tie.Need-shared-slice-read-threads
 shared-slice-read-threads c = search needs
 
--- src/front.rt:141:9
 returns-2 : tie.Need-returns-2
 returns-2 c = rw (le-ltb _ _ (c .before .before .if1 .left), eq-eqb _ _ (c .if2 .taken))
 
--- src/front.rt:143:26
 cast-if3 : tie.Need-cast-if3
 cast-if3 c = omega (arith, c .before .shared-slice-known .given 4)
 
--- src/front.rt:144:9
 returns-3 : tie.Need-returns-3
 returns-3 c = rw (le-ltb _ _ (c .before .before .before .if1 .left), ne-eqb _ _ (c .before .if2 .left), lt-ltb _ _ (c .if3 .taken))
 
--- src/front.rt:146:17
 shared-slice-read-value : tie.Need-shared-slice-read-value
 shared-slice-read-value c = search needs
 
--- src/front.rt:148:9
 returns-4 : tie.Need-returns-4
 returns-4 c = rw (le-ltb _ _ (c .before .before .before .before .before .if1 .left), ne-eqb _ _ (c .before .before .before .if2 .left), le-ltb _ _ (c .before .before .if3 .left), lt-ltb _ _ (c .if4 .taken))
 
--- src/front.rt:133:1
 returns-5 : tie.Need-returns-5
 returns-5 c = rw (le-ltb _ _ (c .before .before .before .before .before .if1 .left), ne-eqb _ _ (c .before .before .before .if2 .left), le-ltb _ _ (c .before .before .if3 .left), le-ltb _ _ (c .if4 .left))
 

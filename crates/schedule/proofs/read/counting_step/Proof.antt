@@ -1,56 +1,43 @@
+-- `schedule::read::counting_step` meets its contract: each tag's numbers are read at the widths of that tag, and behind the file's end stands no tag. Assumes nothing.
 use borrow.Author.Tests.{ne-eqb}
 use Rattle.schedule.specs.Widths.{widths, widthsOf}
 use Rattle.schedule.specs.Language.{stepAt}
-use Rattle.schedule.proofs.Past.{past-tag}
+use Rattle.schedule.proofs.PastEnd.{past-tag}
 use borrow.Author.Needs.{needs}
 use Rattle.schedule.proofs.read.counting_step.Statement.{statement}
 use Rattle.schedule.proofs.read.counting_step.Tie as tie
-use Rattle.schedule.proofs.read.counting_step.Reads as reads
-use Rattle.schedule.proofs.read.counting_step.Lts as lts
-use Rattle.rows.proofs.get1.Reads as get1-reads
-use Rattle.rows.proofs.get4.Reads as get4-reads
 
--- src/read.rt:99:9
 returns : tie.Need-returns
 unfolding stepAt widthsOf widths
 returns c = rw (past-tag _ _ (c .if1 .taken))
 
--- src/read.rt:101:13
 add-p : tie.Need-add-p
 add-p c = search needs
 
--- src/read.rt:102:9
 get1-requires : tie.Need-get1-requires
 get1-requires c κs = search needs
 
--- src/read.rt:103:13
 add-a : tie.Need-add-a
 add-a c = search needs
 
--- src/read.rt:105:13
 get4-requires : tie.Need-get4-requires
 get4-requires c κs = search needs
 
--- src/read.rt:106:9
 returns-2 : tie.Need-returns-2
 unfolding stepAt widthsOf widths
 returns-2 c = rw (c .get4 .ensures, ← c .before .before .get1 .ensures, c .before .if2 .taken)
 
--- src/read.rt:109:9
 returns-3 : tie.Need-returns-3
 unfolding stepAt widthsOf widths
 returns-3 c = rw (← c .before .before .get1 .ensures, c .if3 .taken)
 
--- src/read.rt:112:13
 get4-requires-2 : tie.Need-get4-requires-2
 get4-requires-2 c κs = search needs
 
--- src/read.rt:113:9
 returns-4 : tie.Need-returns-4
 unfolding stepAt widthsOf widths
 returns-4 c = rw (c .get42 .ensures, ← c .before .before .before .before .get1 .ensures, c .before .if4 .taken)
 
--- src/read.rt:95:1
 returns-5 : tie.Need-returns-5
 unfolding stepAt widthsOf widths
 returns-5 c = rw (← c .before .before .before .get1 .ensures, ne-eqb _ _ (c .before .before .if2 .left), ne-eqb _ _ (c .before .if3 .left), ne-eqb _ _ (c .if4 .left))

@@ -1,104 +1,80 @@
+-- `schedule::read::flat_step` meets its contract: each tag's numbers are read at the widths of that tag, and behind the file's end stands no tag. Assumes nothing.
 use borrow.Author.Tests.{ne-eqb}
 use Rattle.schedule.specs.Widths.{widths, widthsOf}
 use Rattle.schedule.specs.Language.{stepAt}
-use Rattle.schedule.proofs.Past.{past-tag}
+use Rattle.schedule.proofs.PastEnd.{past-tag}
 use borrow.Author.Needs.{needs}
 use Rattle.schedule.proofs.read.flat_step.Statement.{statement}
 use Rattle.schedule.proofs.read.flat_step.Tie as tie
-use Rattle.schedule.proofs.read.flat_step.Reads as reads
-use Rattle.schedule.proofs.read.flat_step.Lts as lts
-use Rattle.rows.proofs.get1.Reads as get1-reads
-use Rattle.rows.proofs.get4.Reads as get4-reads
 
--- src/read.rt:21:9
 returns : tie.Need-returns
 unfolding stepAt widthsOf widths
 returns c = rw (past-tag _ _ (c .if1 .taken))
 
--- src/read.rt:23:13
 add-p : tie.Need-add-p
 add-p c = search needs
 
--- src/read.rt:24:9
 get1-requires : tie.Need-get1-requires
 get1-requires c κs = search needs
 
--- src/read.rt:25:13
 add-a : tie.Need-add-a
 add-a c = search needs
 
--- src/read.rt:27:13
 get1-requires-2 : tie.Need-get1-requires-2
 get1-requires-2 c κs = search needs
 
--- src/read.rt:28:17
 add-b : tie.Need-add-b
 add-b c = search needs
 
--- src/read.rt:29:13
 get4-requires : tie.Need-get4-requires
 get4-requires c κs = search needs
 
--- src/read.rt:30:17
 add-c : tie.Need-add-c
 add-c c = search needs
 
--- src/read.rt:31:13
 get4-requires-2 : tie.Need-get4-requires-2
 get4-requires-2 c κs = search needs
 
--- src/read.rt:32:9
 returns-2 : tie.Need-returns-2
 unfolding stepAt widthsOf widths
 returns-2 c = rw (c .get42 .ensures, c .before .get4 .ensures, c .before .before .get12 .ensures, ← c .before .before .before .before .get1 .ensures, c .before .before .before .if2 .taken)
 
--- src/read.rt:35:13
 get1-requires-3 : tie.Need-get1-requires-3
 get1-requires-3 c κs = search needs
 
--- src/read.rt:36:9
 returns-3 : tie.Need-returns-3
 unfolding stepAt widthsOf widths
 returns-3 c = rw (c .get13 .ensures, ← c .before .before .before .get1 .ensures, c .before .if3 .taken)
 
--- src/read.rt:39:9
 returns-4 : tie.Need-returns-4
 unfolding stepAt widthsOf widths
 returns-4 c = rw (← c .before .before .before .get1 .ensures, c .if4 .taken)
 
--- src/read.rt:42:9
 returns-5 : tie.Need-returns-5
 unfolding stepAt widthsOf widths
 returns-5 c = rw (← c .before .before .before .before .get1 .ensures, c .if5 .taken)
 
--- src/read.rt:45:9
 returns-6 : tie.Need-returns-6
 unfolding stepAt widthsOf widths
 returns-6 c = rw (← c .before .before .before .before .before .get1 .ensures, c .if6 .taken)
 
--- src/read.rt:48:13
 get4-requires-3 : tie.Need-get4-requires-3
 get4-requires-3 c κs = search needs
 
--- src/read.rt:49:17
 add-b-2 : tie.Need-add-b-2
 add-b-2 c = search needs
 
--- src/read.rt:50:13
 get4-requires-4 : tie.Need-get4-requires-4
 get4-requires-4 c κs = search needs
 
--- src/read.rt:51:9
 returns-7 : tie.Need-returns-7
 unfolding stepAt widthsOf widths
 returns-7 c = rw (c .get44 .ensures, c .before .get43 .ensures, ← c .before .before .before .before .before .before .before .before .get1 .ensures, c .before .before .if7 .taken)
 
--- src/read.rt:54:9
 returns-8 : tie.Need-returns-8
 unfolding stepAt widthsOf widths
 returns-8 c = rw (← c .before .before .before .before .before .before .before .get1 .ensures, c .if8 .taken)
 
--- src/read.rt:17:1
 returns-9 : tie.Need-returns-9
 unfolding stepAt widthsOf widths
 returns-9 c = rw (← c .before .before .before .before .before .before .before .get1 .ensures, ne-eqb _ _ (c .before .before .before .before .before .before .if2 .left), ne-eqb _ _ (c .before .before .before .before .before .if3 .left), ne-eqb _ _ (c .before .before .before .before .if4 .left), ne-eqb _ _ (c .before .before .before .if5 .left), ne-eqb _ _ (c .before .before .if6 .left), ne-eqb _ _ (c .before .if7 .left), ne-eqb _ _ (c .if8 .left))

@@ -1,74 +1,54 @@
+-- `schedule::read::read` meets its contract: the place is measured, and a whole step is read by its kind's function. Assumes nothing.
 use Rattle.schedule.specs.Finding.{foundAt}
-use borrow.Author.Tests.{le-leb, lt-leb, lt-ltb, le-ltb, eq-eqb, ne-eqb}
+use borrow.Author.Tests.{eq-eqb, ne-eqb}
 use borrow.Author.Needs.{needs}
 use Rattle.schedule.proofs.read.read.Statement.{statement}
 use Rattle.schedule.proofs.read.read.Tie as tie
-use Rattle.schedule.proofs.read.read.Reads as reads
-use Rattle.schedule.proofs.read.read.Lts as lts
-use Rattle.schedule.proofs.lengths.measure.Reads as measure-reads
-use Rattle.schedule.proofs.read.counting_step.Reads as counting-step-reads
-use Rattle.schedule.proofs.read.flag_step.Reads as flag-step-reads
-use Rattle.schedule.proofs.read.flat_step.Reads as flat-step-reads
-use Rattle.schedule.proofs.read.lock_step.Reads as lock-step-reads
 
--- src/read.rt:152:11
 measure-requires : tie.Need-measure-requires
 measure-requires c κs = search needs
 
--- src/read.rt:153:26
 enum-told : tie.Need-enum-told
 enum-told c = search needs
 
--- src/read.rt:154:29
 enum-told-2 : tie.Need-enum-told-2
 enum-told-2 c = search needs
 
--- src/read.rt:155:27
 enum-known-next : tie.Need-enum-known-next
 enum-known-next c = search needs
 
--- src/read.rt:158:38
 flat-step-requires : tie.Need-flat-step-requires
 flat-step-requires c κs = search needs
 
--- src/read.rt:157:17
 returns : tie.Need-returns
 unfolding foundAt
 returns c = rw (c .flat-step .ensures, ← c .before .before .before .before .before .measure .ensures, c .before .before .before .next .given .1, eq-eqb _ _ (c .before .if1 .taken))
 
--- src/read.rt:164:38
 lock-step-requires : tie.Need-lock-step-requires
 lock-step-requires c κs = search needs
 
--- src/read.rt:163:17
 returns-2 : tie.Need-returns-2
 unfolding foundAt
 returns-2 c = rw (c .lock-step .ensures, ← c .before .before .before .before .before .before .measure .ensures, c .before .before .before .before .next .given .1, ne-eqb _ _ (c .before .before .if1 .left), eq-eqb _ _ (c .before .if2 .taken))
 
--- src/read.rt:170:42
 counting-step-requires : tie.Need-counting-step-requires
 counting-step-requires c κs = search needs
 
--- src/read.rt:169:17
 returns-3 : tie.Need-returns-3
 unfolding foundAt
 returns-3 c = rw (c .counting-step .ensures, ← c .before .before .before .before .before .before .before .measure .ensures, c .before .before .before .before .before .next .given .1, ne-eqb _ _ (c .before .before .before .if1 .left), ne-eqb _ _ (c .before .before .if2 .left), eq-eqb _ _ (c .before .if3 .taken))
 
--- src/read.rt:175:34
 flag-step-requires : tie.Need-flag-step-requires
 flag-step-requires c κs = search needs
 
--- src/read.rt:149:1
 returns-4 : tie.Need-returns-4
 unfolding foundAt
 returns-4 c = rw (← c .before .before .measure .ensures, c .enum-told .given .1)
 
--- src/read.rt:149:1
 returns-5 : tie.Need-returns-5
 unfolding foundAt
 returns-5 c = rw (← c .before .before .measure .ensures, c .enum-told2 .given .1)
 
--- src/read.rt:149:1
 returns-6 : tie.Need-returns-6
 unfolding foundAt
 returns-6 c = rw (c .flag-step .ensures, ← c .before .before .before .before .before .before .before .measure .ensures, c .before .before .before .before .before .next .given .1, ne-eqb _ _ (c .before .before .before .if1 .left), ne-eqb _ _ (c .before .before .if2 .left), ne-eqb _ _ (c .before .if3 .left))

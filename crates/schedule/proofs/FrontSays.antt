@@ -19,21 +19,21 @@ use Rattle.schedule.specs.declared.steps.Params.the-variants.{Flat, Lock
 use Rattle.schedule.specs.declared.front.Fault.the-variants.{Length, Version, Body, Kind, Parameter, Step, Surplus}
 use Rattle.schedule.specs.declared.front.Opened.{Opened}
 use Rattle.schedule.specs.declared.front.Opened.the-variants.{Faulty, Open}
-use Rattle.schedule.proofs.Standing.{by-test}
-
--- the kind that has such parameters
-abbrev pub kindOf : Params → ℕ
-kindOf (Flat n) = kind.flat
-kindOf (Lock n t) = kind.lock
-kindOf Counting = kind.counting
-kindOf (Flag n v) = kind.flag
+use Rattle.schedule.proofs.MeasureSays.{by-test}
 
 module _ (f : List ℕ) where
+  -- the parameters of a front that is ready
+  abbrev pub paramsOf : {from : ℕ} → Ready f from → Params
+  paramsOf (flatReady k l n) = Flat (getD f 4 0)
+  paramsOf (lockReady k l m n) = Lock (getD f 4 0) (numberAt f 5 4)
+  paramsOf (countingReady k) = Counting
+  paramsOf (flagReady k l m n v) = Flag (getD f 4 0) (eqb (getD f 5 0) 1)
+
   -- the front passes all its tests
   pub record Passed (p : Params) (from : ℕ) : Type 0 where
     pub framed : Framed f
     pub ready : Ready f from
-    pub kind : getD f 3 0 ≡ kindOf p
+    pub params : p ≡ paramsOf ready
 
   abbrev pub FrontSays : Opened → Type 0
   FrontSays (Faulty Length) = WrongLength f
@@ -76,7 +76,7 @@ module _ (f : List ℕ) where
       flat-says =
           by-test FrontSays (ltb (length f) 5) _ _ (λ e. flat-wrong (λ h. omega (arith, ltb-true (length f) 5 e)))
           (λ a. by-test FrontSays (ltb limit.clients (getD f 4 0)) _ _ (λ e. flat-wrong (λ h. omega (arith, ltb-true limit.clients (getD f 4 0) e)))
-          (λ b. record { framed = g; ready = flatReady k (ltb-false (length f) 5 a) (ltb-false limit.clients (getD f 4 0) b); kind = k }))
+          (λ b. record { framed = g; ready = flatReady k (ltb-false (length f) 5 a) (ltb-false limit.clients (getD f 4 0) b); params = refl }))
 
     module _ (k : getD f 3 0 ≡ kind.lock) where
       lock-wrong : ((9 ≤ length f) × (1 ≤ getD f 4 0) × (getD f 4 0 ≤ limit.width) → ⊥) → WrongParameter f
@@ -91,7 +91,7 @@ module _ (f : List ℕ) where
           record {
             framed = g;
             ready = lockReady k (ltb-false (length f) 9 a) (omega (arith, eqb-false (getD f 4 0) 0 z)) (ltb-false limit.width (getD f 4 0) b);
-            kind = k;
+            params = refl;
           })))
 
     module _ (k : getD f 3 0 ≡ kind.flag) where
@@ -110,7 +110,7 @@ module _ (f : List ℕ) where
             ready =
                 flagReady k (ltb-false (length f) 6 a) (omega (arith, eqb-false (getD f 4 0) 0 z)) (ltb-false limit.threads (getD f 4 0) b)
                 (ltb-false 1 (getD f 5 0) v);
-            kind = k;
+            params = refl;
           }))))
 
     kind-says : FrontSays (kindFront (getD f 3 0) f)
@@ -118,7 +118,7 @@ module _ (f : List ℕ) where
         by-test FrontSays (eqb (getD f 3 0) kind.flat) _ _ (λ k. flat-says (eqb-true (getD f 3 0) kind.flat k))
         (λ a. by-test FrontSays (eqb (getD f 3 0) kind.lock) _ _ (λ k. lock-says (eqb-true (getD f 3 0) kind.lock k))
         (λ b. by-test FrontSays (eqb (getD f 3 0) kind.counting) _ _
-        (λ k. let e = eqb-true (getD f 3 0) kind.counting k in record { framed = g; ready = countingReady e; kind = e })
+        (λ k. let e = eqb-true (getD f 3 0) kind.counting k in record { framed = g; ready = countingReady e; params = refl })
         (λ c. by-test FrontSays (eqb (getD f 3 0) kind.flag) _ _ (λ k. flag-says (eqb-true (getD f 3 0) kind.flag k))
         (λ d.
         record {
@@ -166,30 +166,14 @@ module _ (f : List ℕ) where
       framed-opened (w .framed)
       ∙ rw (ne-eqb _ _ (λ e. w .unknown (inl e)), ne-eqb _ _ (λ e. w .unknown (inr (inl e))), ne-eqb _ _ (λ e. w .unknown (inr (inr (inl e)))), ne-eqb _ _ (λ e. w .unknown (inr (inr (inr e)))))
 
-  -- the front is passed, with some parameters of the file's kind
-  pub record Opens (from : ℕ) : Type 0 where
-    pub params : Params
-    pub kind : getD f 3 0 ≡ kindOf params
-    pub opened : openedOf f ≡ Open params from
-
-  pub ready-opened : {from : ℕ} → Framed f → Ready f from → Opens from
-  ready-opened g (flatReady k l n) =
-      record { params = Flat (getD f 4 0); kind = k; opened = framed-opened g ∙ rw (k, le-ltb (length f) 5 l, le-ltb limit.clients (getD f 4 0) n) }
+  pub ready-opened : {from : ℕ} → Framed f → (r : Ready f from) → openedOf f ≡ Open (paramsOf r) from
+  ready-opened g (flatReady k l n) = framed-opened g ∙ rw (k, le-ltb (length f) 5 l, le-ltb limit.clients (getD f 4 0) n)
   ready-opened g (lockReady k l m n) =
-      record {
-        params = Lock (getD f 4 0) (numberAt f 5 4);
-        kind = k;
-        opened = framed-opened g ∙ rw (k, le-ltb (length f) 9 l, ne-eqb (getD f 4 0) 0 (λ e. omega arith), le-ltb limit.width (getD f 4 0) n);
-      }
-  ready-opened g (countingReady k) = record { params = Counting; kind = k; opened = framed-opened g ∙ rw k }
+      framed-opened g ∙ rw (k, le-ltb (length f) 9 l, ne-eqb (getD f 4 0) 0 (λ e. omega arith), le-ltb limit.width (getD f 4 0) n)
+  ready-opened g (countingReady k) = framed-opened g ∙ rw k
   ready-opened g (flagReady k l m n v) =
-      record {
-        params = Flag (getD f 4 0) (eqb (getD f 5 0) 1);
-        kind = k;
-        opened =
-            framed-opened g
-            ∙ rw (k, le-ltb (length f) 6 l, ne-eqb (getD f 4 0) 0 (λ e. omega arith), le-ltb limit.threads (getD f 4 0) n, le-ltb 1 (getD f 5 0) v);
-      }
+      framed-opened g
+      ∙ rw (k, le-ltb (length f) 6 l, ne-eqb (getD f 4 0) 0 (λ e. omega arith), le-ltb limit.threads (getD f 4 0) n, le-ltb 1 (getD f 5 0) v)
 
   only-parameter : (o : Opened) → FrontSays o → WrongParameter f → o ≡ Faulty Parameter
   only-parameter (Faulty Length) (inl h) w = absurd (omega (arith, w .framed .sized .long))

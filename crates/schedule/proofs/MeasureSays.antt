@@ -13,7 +13,7 @@ use Rattle.schedule.specs.Reading.{measuredAt}
 use Rattle.schedule.specs.Given.{Stands, Malformed}
 use Rattle.schedule.specs.declared.lengths.Measured.{Measured}
 use Rattle.schedule.specs.declared.lengths.Measured.the-variants.{End, Broken, Whole}
-use Rattle.schedule.proofs.Measures.{at-end, at-whole}
+use Rattle.schedule.proofs.MeasureTests.{at-end, at-whole}
 
 -- what holds of both answers of a test, each in its case, holds of the answer
 pub by-test : {A : Type 0} (P : A → Type 0) (b : Bool) (x y : A) → (b ≡ true → P x) → (b ≡ false → P y) → P (cond b x y)
@@ -41,6 +41,10 @@ module _ (kind : ℕ) (f : List ℕ) (at : ℕ) where
         ends = refl;
       })
       (λ o. (inside, inr (inr (eqb-false (lengthOf kind (getD f (at + 1) 0)) (getD f at 0) o)))))))
+
+  -- so a step that was measured whole stands there
+  pub whole-stands : (next : ℕ) → measuredAt kind f at ≡ Whole next → Stands kind f at next
+  whole-stands next e = rw e at measure-says
 
   -- and each saying is that of one measure only
 

@@ -1,5 +1,5 @@
--- What the places of a file's steps say of its bytes, and that the bytes settle them: one induction over the steps that are left. Assumes nothing.
-use mathlib.Core.Path.{_≡_, refl, _∙_}
+-- What the places of a file's steps say of its bytes, and that the bytes settle them: the one induction over `placesFrom` that the others cite. Assumes nothing.
+use mathlib.Core.Path.{_≡_, refl, ap, _∙_}
 use mathlib.Core.List.{List, [], _∷_}
 use Prim.Native.Nat.{ℕ, zero, suc, _+_, _≤_, _<_}
 use native.Mathlib.Nat.{add-zero}
@@ -11,15 +11,23 @@ use Rattle.schedule.specs.Reading.{measuredAt, Placed, broken, surplus, 
 use Rattle.schedule.specs.Given.{Stands, Malformed, Whole#, none, more}
 use Rattle.schedule.specs.declared.lengths.Measured.{Measured}
 use Rattle.schedule.specs.declared.lengths.Measured.the-variants.{End, Broken, Whole}
-use Rattle.schedule.proofs.Standing.{by-test, MeasureSays, measure-says, end-measured, stands-measured, malformed-measured, stands-inside}
-
--- an answer that is the places of j steps
-pub record Places (j : ℕ) (p : Placed) : Type 0 where
-  pub list : List ℕ
-  pub many : length list ≡ j
-  pub are : p ≡ placed list
+use Rattle.schedule.proofs.MeasureSays.{by-test, MeasureSays, measure-says, end-measured, stands-measured, malformed-measured, stands-inside}
 
 module _ (kind : ℕ) (f : List ℕ) where
+  -- the places of whole steps
+  abbrev pub placesOf : {at k to : ℕ} → Whole# kind f at k to → List ℕ
+  placesOf none = []
+  placesOf (more {at} s w) = at ∷ placesOf w
+
+  pub length-placesOf : {at k to : ℕ} (w : Whole# kind f at k to) → length (placesOf w) ≡ k
+  length-placesOf none = refl
+  length-placesOf (more s w) = ap suc (length-placesOf w)
+
+  -- steps that begin inside the file end inside it
+  pub whole-inside : {at k to : ℕ} → at ≤ length f → Whole# kind f at k to → to ≤ length f
+  whole-inside h none = h
+  whole-inside h (more {at} {next} s w) = whole-inside (stands-inside kind f at next s) w
+
   -- with n steps left from `at` on, the first of them number k: the step i is malformed, and those before it are whole
   pub record BrokenAt (n at k i : ℕ) : Type 0 where
     pub before : ℕ
@@ -35,10 +43,14 @@ module _ (kind : ℕ) (f : List ℕ) where
     pub whole : Whole# kind f at n to
     pub remain : to < length f
 
-  -- there is a whole step for each place, and they end where the file does
+  -- the places are those of whole steps, behind which the file is over
   pub record PlacedAt (n at : ℕ) (ps : List ℕ) : Type 0 where
-    pub few : length ps ≤ n
-    pub whole : Whole# kind f at (length ps) (length f)
+    pub steps : ℕ
+    pub to : ℕ
+    pub few : steps ≤ n
+    pub whole : Whole# kind f at steps to
+    pub over : length f ≤ to
+    pub places : ps ≡ placesOf whole
 
   abbrev pub PlacesSay : ℕ → ℕ → ℕ → Placed → Type 0
   PlacesSay n at k (broken i) = BrokenAt n at k i
@@ -57,27 +69,35 @@ module _ (kind : ℕ) (f : List ℕ) where
         malformed = b .malformed;
       }
   one-more n at next k surplus s b = record { to = b .to; whole = more s (b .whole); remain = b .remain }
-  one-more n at next k (placed ps) s b = record { few = omega (arith, b .few); whole = more s (b .whole) }
+  one-more n at next k (placed ps) s b =
+      record {
+        steps = suc (b .steps);
+        to = b .to;
+        few = omega (arith, b .few);
+        whole = more s (b .whole);
+        over = b .over;
+        places = ap (λ (us : List ℕ). at ∷ us) (b .places);
+      }
 
-  ended : (n at : ℕ) → at ≤ length f → length f ≤ at → PlacedAt n at []
-  ended n at h l = let e : at ≡ length f = omega arith in record { few = omega arith; whole = rw e none }
+  ended : (n at : ℕ) → length f ≤ at → PlacedAt n at []
+  ended n at h = record { steps = 0; to = at; few = omega arith; whole = none; over = h; places = refl }
 
-  by-measure : (n at k : ℕ) (go : ℕ → Placed) (m : Measured) → at ≤ length f → MeasureSays kind f at m
-      → ((next : ℕ) → next ≤ length f → PlacesSay n next (k + 1) (go next)) → PlacesSay (suc n) at k (byMeasure go at k m)
-  by-measure n at k go End h l g = ended (suc n) at h l
-  by-measure n at k go Broken h w g =
+  by-measure : (n at k : ℕ) (go : ℕ → Placed) (m : Measured) → MeasureSays kind f at m → ((next : ℕ) → PlacesSay n next (k + 1) (go next))
+      → PlacesSay (suc n) at k (byMeasure go at k m)
+  by-measure n at k go End h g = ended (suc n) at h
+  by-measure n at k go Broken w g =
       record { before = 0; to = at; index = omega arith; below = omega arith; whole = none; malformed = w }
-  by-measure n at k go (Whole next) h s g = one-more n at next k (go next) s (g next (stands-inside kind f at next s))
+  by-measure n at k go (Whole next) s g = one-more n at next k (go next) s (g next)
 
-  pub places-say : (n at k : ℕ) → at ≤ length f → PlacesSay n at k (placesFrom kind n f at k)
+  pub places-say : (n at k : ℕ) → PlacesSay n at k (placesFrom kind n f at k)
   unfolding placesFrom
-  places-say zero at k h =
+  places-say zero at k =
       by-test (PlacesSay zero at k) (ltb at (length f)) surplus (placed [])
       (λ e. record { to = at; whole = none; remain = ltb-true at (length f) e })
-      (λ e. ended zero at h (ltb-false at (length f) e))
-  places-say (suc n) at k h =
-      by-measure n at k (λ next. placesFrom kind n f next (k + 1)) (measuredAt kind f at) h (measure-says kind f at)
-      (λ next l. places-say n next (k + 1) l)
+      (λ e. ended zero at (ltb-false at (length f) e))
+  places-say (suc n) at k =
+      by-measure n at k (λ next. placesFrom kind n f next (k + 1)) (measuredAt kind f at) (measure-says kind f at)
+      (λ next. places-say n next (k + 1))
 
   -- and each saying is that of one answer only
 
@@ -98,17 +118,12 @@ module _ (kind : ℕ) (f : List ℕ) where
   surplus-placed k (none {at}) l = rw (lt-ltb at (length f) l)
   surplus-placed k (more {at} {next} {k = j} s w) l = step-placed j at next k s ∙ rw (surplus-placed (k + 1) w l)
 
-  end-placed : (n k : ℕ) → placesFrom kind n f (length f) k ≡ placed []
+  end-placed : (n at k : ℕ) → length f ≤ at → placesFrom kind n f at k ≡ placed []
   unfolding placesFrom
-  end-placed zero k = rw (le-ltb (length f) (length f) (omega arith))
-  end-placed (suc n) k = rw (end-measured kind f (length f) (omega arith))
+  end-placed zero at k h = rw (le-ltb at (length f) h)
+  end-placed (suc n) at k h = rw (end-measured kind f at h)
 
-  pub whole-placed : {at j : ℕ} (n k : ℕ) → Whole# kind f at j (length f) → j ≤ n → Places j (placesFrom kind n f at k)
-  whole-placed n k w l = walk n k w refl l
-    where
-      walk : {at j to : ℕ} (n k : ℕ) → Whole# kind f at j to → to ≡ length f → j ≤ n → Places j (placesFrom kind n f at k)
-      walk n k none e l = record { list = []; many = refl; are = rw e (end-placed n k) }
-      walk zero k (more s w) e l = absurd (omega arith)
-      walk (suc n) k (more {at} {next} {k = j} s w) e l =
-          let g = walk n (k + 1) w e (omega arith) in
-          record { list = at ∷ g .list; many = omega (arith, g .many); are = step-placed n at next k s ∙ rw (g .are) }
+  pub whole-placed : {at j to : ℕ} (n k : ℕ) (w : Whole# kind f at j to) → length f ≤ to → j ≤ n → placesFrom kind n f at k ≡ placed (placesOf w)
+  whole-placed n k (none {at}) h l = end-placed n at k h
+  whole-placed zero k (more s w) h l = absurd (omega arith)
+  whole-placed (suc n) k (more {at} {next} s w) h l = step-placed n at next k s ∙ rw (whole-placed n (k + 1) w h (omega arith))
