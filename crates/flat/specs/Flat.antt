@@ -1,0 +1,156 @@
+-- The flat combiner as document 01 has it: a step's tests, the state after it, what it logs. Assumes nothing.
+use Prim.Native.Nat.{ℕ, _+_}
+use mathlib.Core.Path.{_≡_, refl}
+use mathlib.Core.Bool.{Bool, true, false, cond, not}
+use mathlib.Core.List.{List, [], _∷_, _++_}
+use lib.Dec.{eqb, ltb}
+use lib.ListN.{getD, set, replicate}
+use Rattle.machine.specs.Check.{Check, need, rises}
+use Rattle.machine.specs.Machine.{Machine}
+use Rattle.schedule.specs.Codes as code
+use Rattle.schedule.specs.Limits as limit
+use Rattle.schedule.specs.declared.steps.FlatStep.{FlatStep}
+use Rattle.schedule.specs.declared.steps.FlatStep.the-variants.{ClientSend, ClientRecv, CombinerRecv, CombinerSkip, CombinerGoToResponding, CombinerSend, CombinerSendSkip, CombinerGoToCollecting}
+use Rattle.flat.specs.declared.state.Client.{Client}
+use Rattle.flat.specs.declared.state.Elem.{Elem}
+use Rattle.flat.specs.declared.state.State.{State}
+use Rattle.flat.specs.declared.state.Made.{Made}
+use Rattle.flat.specs.declared.entry.Entry.{Entry}
+use Rattle.flat.specs.declared.entry.Entry.the-variants.{Answer}
+
+-- ---------- fresh: all idle, slots clear, collecting, nothing gathered; bad parameters are 5 with a state of zeros
+
+abbrev pub zeroClient : Client
+zeroClient = record { rid = 0; req = 0; resp = 0; waiting = false; asked = false; told = false; slot = false }
+
+abbrev pub zeroElem : Elem
+zeroElem = record { rid = 0; present = false }
+
+abbrev pub emptyFlat : ℕ → State
+emptyFlat count =
+    record { clients = replicate limit.clients zeroClient; elems = replicate limit.clients zeroElem; count = count; len = 0; idx = 0; responding = false }
+
+abbrev pub freshOf : ℕ → Made
+freshOf count =
+    cond (ltb limit.clients count) (record { state = emptyFlat 0; code = code.parameter })
+    (record { state = emptyFlat count; code = code.accepted })
+
+-- ---------- the tests: those on the combiner, then those on the client or the element that the step looks at
+
+abbrev pub client : State → ℕ → Client
+client s j = getD (s .clients) j zeroClient
+
+abbrev pub elem : State → ℕ → Elem
+elem s j = getD (s .elems) j zeroElem
+
+abbrev pub insideTests : ℕ → ℕ → List Check
+insideTests count j = need code.outside (ltb j count) ∷ []
+
+abbrev pub gatherTests : Bool → ℕ → ℕ → List Check
+gatherTests responding len count = need code.phase (not responding) ∷ need code.cursor (ltb len count) ∷ []
+
+abbrev pub fullTests : Bool → ℕ → ℕ → List Check
+fullTests responding len count = need code.phase (not responding) ∷ need code.cursor (eqb len count) ∷ []
+
+abbrev pub serveTests : Bool → ℕ → ℕ → List Check
+serveTests responding idx count = need code.phase responding ∷ need code.cursor (ltb idx count) ∷ []
+
+abbrev pub doneTests : Bool → ℕ → ℕ → List Check
+doneTests responding idx count = need code.phase responding ∷ need code.cursor (eqb idx count) ∷ []
+
+abbrev pub sendTests : Client → List Check
+sendTests c = need code.phase (not (c .waiting)) ∷ []
+
+abbrev pub recvTests : Client → List Check
+recvTests c = need code.phase (c .waiting) ∷ need code.slot (not (c .slot)) ∷ []
+
+abbrev pub slotTests : Client → List Check
+slotTests c = need code.slot (c .slot) ∷ []
+
+-- the element is this very id; the element holds no id
+abbrev pub elemTests : Elem → ℕ → List Check
+elemTests e rid = need code.element (e .present) ∷ need code.element (eqb rid (e .rid)) ∷ []
+
+abbrev pub freeTests : Elem → List Check
+freeTests e = need code.element (not (e .present)) ∷ []
+
+abbrev pub headTests : State → FlatStep → List Check
+headTests s (ClientSend j rid req) = insideTests (s .count) j
+headTests s (ClientRecv j) = insideTests (s .count) j
+headTests s CombinerRecv = gatherTests (s .responding) (s .len) (s .count)
+headTests s CombinerSkip = gatherTests (s .responding) (s .len) (s .count)
+headTests s CombinerGoToResponding = fullTests (s .responding) (s .len) (s .count)
+headTests s (CombinerSend rid resp) = serveTests (s .responding) (s .idx) (s .count)
+headTests s CombinerSendSkip = serveTests (s .responding) (s .idx) (s .count)
+headTests s CombinerGoToCollecting = doneTests (s .responding) (s .idx) (s .count)
+
+-- combiner_skip is allowed with the slot set
+abbrev pub placeTests : State → FlatStep → List Check
+placeTests s (ClientSend j rid req) = sendTests (client s j)
+placeTests s (ClientRecv j) = recvTests (client s j)
+placeTests s CombinerRecv = slotTests (client s (s .len))
+placeTests s CombinerSkip = []
+placeTests s CombinerGoToResponding = []
+placeTests s (CombinerSend rid resp) = elemTests (elem s (s .idx)) rid
+placeTests s CombinerSendSkip = freeTests (elem s (s .idx))
+placeTests s CombinerGoToCollecting = []
+
+abbrev pub tests : State → FlatStep → List Check
+tests s x = headTests s x ++ placeTests s x
+
+-- ---------- the state after
+
+abbrev pub sending : Client → ℕ → ℕ → Client
+sending c rid req = record { rid = rid; req = req; resp = c .resp; waiting = true; asked = true; told = c .told; slot = true }
+
+abbrev pub receiving : Client → Client
+receiving c = record { rid = 0; req = c .req; resp = 0; waiting = false; asked = c .asked; told = false; slot = c .slot }
+
+-- combiner_recv does not clear the slot
+abbrev pub gathering : Client → Client
+gathering c = record { rid = c .rid; req = 0; resp = c .resp; waiting = c .waiting; asked = false; told = c .told; slot = c .slot }
+
+abbrev pub keeping : Client → Elem
+keeping c = record { rid = c .rid; present = true }
+
+abbrev pub answering : Client → ℕ → Client
+answering c resp = record { rid = c .rid; req = c .req; resp = resp; waiting = c .waiting; asked = c .asked; told = true; slot = false }
+
+abbrev pub with : State → List Client → List Elem → ℕ → ℕ → Bool → State
+with s cs es l i m = record { clients = cs; elems = es; count = s .count; len = l; idx = i; responding = m }
+
+abbrev pub next : State → FlatStep → State
+next s (ClientSend j rid req) = with s (set (s .clients) j (sending (client s j) rid req)) (s .elems) (s .len) (s .idx) (s .responding)
+next s (ClientRecv j) = with s (set (s .clients) j (receiving (client s j))) (s .elems) (s .len) (s .idx) (s .responding)
+next s CombinerRecv =
+    let c = client s (s .len) in
+    with s (set (s .clients) (s .len) (gathering c)) (set (s .elems) (s .len) (keeping c)) (s .len + 1) (s .idx) (s .responding)
+next s CombinerSkip = with s (s .clients) (set (s .elems) (s .len) zeroElem) (s .len + 1) (s .idx) (s .responding)
+next s CombinerGoToResponding = with s (s .clients) (s .elems) (s .len) 0 true
+next s (CombinerSend rid resp) = with s (set (s .clients) (s .idx) (answering (client s (s .idx)) resp)) (s .elems) (s .len) (s .idx + 1) (s .responding)
+next s CombinerSendSkip = with s (s .clients) (s .elems) (s .len) (s .idx + 1) (s .responding)
+next s CombinerGoToCollecting = with s (s .clients) (replicate limit.clients zeroElem) 0 0 false
+
+-- client_recv logs client, rid, resp
+abbrev pub logs : State → FlatStep → List Entry
+logs s (ClientSend j rid req) = []
+logs s (ClientRecv j) = Answer j (client s j .rid) (client s j .resp) ∷ []
+logs s CombinerRecv = []
+logs s CombinerSkip = []
+logs s CombinerGoToResponding = []
+logs s (CombinerSend rid resp) = []
+logs s CombinerSendSkip = []
+logs s CombinerGoToCollecting = []
+
+pub rising : (s : State) (x : FlatStep) → rises 1 (tests s x) ≡ true
+rising s (ClientSend j rid req) = refl
+rising s (ClientRecv j) = refl
+rising s CombinerRecv = refl
+rising s CombinerSkip = refl
+rising s CombinerGoToResponding = refl
+rising s (CombinerSend rid resp) = refl
+rising s CombinerSendSkip = refl
+rising s CombinerGoToCollecting = refl
+
+abbrev pub flat : Machine
+flat = record { State = State; Step = FlatStep; Entry = Entry; tests = tests; next = next; logs = logs; rising = rising }

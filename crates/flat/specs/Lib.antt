@@ -1,0 +1,9 @@
+pub mod Flat
+pub mod Moved
+pub mod Image
+pub mod Sound
+pub mod Single
+pub mod Source
+pub mod Invariants
+pub mod Refined
+pub mod Demand
