@@ -1,5 +1,5 @@
 -- An entry and an image, laid down piece by piece. Assumes nothing.
-use mathlib.Core.Path.{_≡_, refl, _∙_}
+use mathlib.Core.Path.{_≡_, _∙_}
 use mathlib.Core.List.{List, [], _∷_, _++_}
 use Prim.Native.Nat.{ℕ, _+_, _-_, _≤_, _<_}
 use native.Mathlib.Omega.{arith}
@@ -7,7 +7,7 @@ use mir.Val.{boolByte}
 use lib.ListN.{length, set, length-set}
 use Rattle.rows.specs.Bytes.{big}
 use Rattle.rows.specs.Stores.{Laid}
-use Rattle.rows.proofs.Stores.{whole-laid, none-laid, laid-then, laid-length}
+use Rattle.rows.proofs.Stores.{none-laid, laid-then, stores-then, laid-length}
 use Rattle.counting.specs.Image.{tagged, entryBytes, imageBytes}
 use Rattle.counting.specs.declared.entry.Entry.{Entry}
 use Rattle.counting.specs.declared.state.State.{State}
@@ -21,9 +21,7 @@ module _ (l : List ℕ) (at tag t : ℕ) where
 
   module _ (h : 6 ≤ length l) (p : at ≤ length l - 6) (r : ℕ) (l′ : List ℕ) where
     pub tagged-laid : Laid (set (set l at 5) (at + 1) tag) (at + 1 + 1) (big 4 t) r l′ → Laid l at (tagged tag t) r l′
-    tagged-laid k =
-        laid-then l at (5 ∷ tag ∷ []) (big 4 t) (at + 1 + 1) (set (set l at 5) (at + 1) tag) r l′ (omega arith)
-        (whole-laid l at (5 ∷ tag ∷ []) (at + 1 + 1) (set (set l at 5) (at + 1) tag) (omega arith) (omega arith) refl) k
+    tagged-laid k = stores-then l at (5 ∷ tag ∷ []) (big 4 t) (at + 1 + 1) r l′ (omega arith) (omega arith) k
 
 -- a writer behind two stores leaves the buffer as long as it was
 pub tagged-length : (l : List ℕ) (at a b i r : ℕ) (bs l′ : List ℕ) → Laid (set (set l at a) (at + 1) b) i bs r l′ → length l′ ≡ length l

@@ -13,6 +13,7 @@ ghost use mathlib.Core.Path.{_≡_};
 ghost use mathlib.Core.Bool.{true};
 ghost use Prim.Native.Nat.{_≤_};
 ghost use lib.ListN.{length};
+ghost use Rattle.schedule.specs.Limits as limit;
 ghost use Rattle.counting.specs.Sound.{sound};
 ghost use Rattle.counting.specs.Single.{Singled, Applied};
 
@@ -62,7 +63,7 @@ fn quiet(s: State, code: u8) -> Answer
 
 fn apply(s: State, x: CountingStep, log: &mut [u8]) -> Answer
     requires { ⌜ sound s ≡ true ⌝ }
-    requires { ⌜ 10 ≤ length (now log) ⌝ }
+    requires { ⌜ limit.entry ≤ length (now log) ⌝ }
     ensures { λ r. ⌜ Applied s x (now (log .entry)) r (now (log .exit)) ⌝ }
 {
     match x {

@@ -1,35 +1,27 @@
-use borrow.Author.Tests.{le-leb, lt-leb, lt-ltb, le-ltb, eq-eqb, ne-eqb}
+-- `counting::moves::delete_ref` meets its contract: its tests go in the order of the definition's, and what is above 0 can be counted down. Assumes nothing.
+use borrow.Author.Tests.{lt-ltb, le-ltb, eq-eqb, ne-eqb}
 use borrow.Author.Needs.{needs}
 use Rattle.counting.proofs.moves.delete_ref.Statement.{statement}
 use Rattle.counting.proofs.moves.delete_ref.Tie as tie
-use Rattle.counting.proofs.moves.delete_ref.Reads as reads
-use Rattle.counting.proofs.moves.delete_ref.Lts as lts
 
--- src/moves.rt:106:32
 sub-t8 : tie.Need-sub-t8
 sub-t8 c = search needs
 
--- src/moves.rt:107:31
 sub-t9 : tie.Need-sub-t9
 sub-t9 c = search needs
 
--- src/moves.rt:110:21
 returns : tie.Need-returns
 returns c = rw (c .before .before .before .before .before .before .before .before .if1 .taken, lt-ltb _ _ (c .before .before .before .before .before .before .if2 .taken), eq-eqb _ _ (c .before .before .before .before .if3 .taken), lt-ltb _ _ (c .before .before .if4 .taken))
 
--- src/moves.rt:115:17
 returns-2 : tie.Need-returns-2
 returns-2 c = rw (c .before .before .before .before .before .before .if1 .taken, lt-ltb _ _ (c .before .before .before .before .if2 .taken), eq-eqb _ _ (c .before .before .if3 .taken), le-ltb _ _ (c .if4 .left))
 
--- src/moves.rt:120:13
 returns-3 : tie.Need-returns-3
 returns-3 c = rw (c .before .before .before .before .if1 .taken, lt-ltb _ _ (c .before .before .if2 .taken), ne-eqb _ _ (c .if3 .left))
 
--- src/moves.rt:125:9
 returns-4 : tie.Need-returns-4
 returns-4 c = rw (c .before .before .if1 .taken, le-ltb _ _ (c .if2 .left))
 
--- src/moves.rt:97:1
 returns-5 : tie.Need-returns-5
 returns-5 c = rw (c .if1 .left)
 

@@ -1,31 +1,24 @@
-use borrow.Author.Tests.{le-leb, lt-leb, lt-ltb, le-ltb, eq-eqb, ne-eqb}
+-- `counting::moves::new_ref` meets its contract: its tests go in the order of the definition's, and what is below the limit can be counted up. Assumes nothing.
+use borrow.Author.Tests.{lt-ltb, le-ltb}
 use borrow.Author.Needs.{needs}
 use Rattle.counting.proofs.moves.new_ref.Statement.{statement}
 use Rattle.counting.proofs.moves.new_ref.Tie as tie
-use Rattle.counting.proofs.moves.new_ref.Reads as reads
-use Rattle.counting.proofs.moves.new_ref.Lts as lts
 
--- src/moves.rt:72:28
 add-t6 : tie.Need-add-t6
 add-t6 c = search needs
 
--- src/moves.rt:73:27
 add-t7 : tie.Need-add-t7
 add-t7 c = search needs
 
--- src/moves.rt:76:17
 returns : tie.Need-returns
 returns c = rw (c .before .before .before .before .before .before .if1 .taken, lt-ltb _ _ (c .before .before .before .before .if2 .taken), lt-ltb _ _ (c .before .before .if3 .taken))
 
--- src/moves.rt:81:13
 returns-2 : tie.Need-returns-2
 returns-2 c = rw (c .before .before .before .before .if1 .taken, lt-ltb _ _ (c .before .before .if2 .taken), le-ltb _ _ (c .if3 .left))
 
--- src/moves.rt:86:9
 returns-3 : tie.Need-returns-3
 returns-3 c = rw (c .before .before .if1 .taken, le-ltb _ _ (c .if2 .left))
 
--- src/moves.rt:64:1
 returns-4 : tie.Need-returns-4
 returns-4 c = rw (c .if1 .left)
 

@@ -1,14 +1,10 @@
-use borrow.Author.Tests.{le-leb, lt-leb, lt-ltb, le-ltb, eq-eqb, ne-eqb}
+-- `counting::moves::writeable_to_readable` meets its contract: its one test is the definition's, and each way out computes to it. Assumes nothing.
 use Rattle.counting.proofs.moves.writeable_to_readable.Statement.{statement}
 use Rattle.counting.proofs.moves.writeable_to_readable.Tie as tie
-use Rattle.counting.proofs.moves.writeable_to_readable.Reads as reads
-use Rattle.counting.proofs.moves.writeable_to_readable.Lts as lts
 
--- src/moves.rt:20:9
 returns : tie.Need-returns
 returns c = rw (c .if1 .taken)
 
--- src/moves.rt:16:1
 returns-2 : tie.Need-returns-2
 returns-2 c = rw (c .if1 .left)
 

@@ -1,109 +1,78 @@
+-- `counting::single::apply` meets its contract: arm by arm, what a transition answers is what the single step says of a sound state. Assumes nothing.
 use Rattle.counting.proofs.Answering.{write-arm, delete-arm, withdraw-refused, new-refused, withdraw-arm, new-arm}
 use borrow.Author.Needs.{needs}
 use Rattle.counting.proofs.single.apply.Statement.{statement}
 use Rattle.counting.proofs.single.apply.Tie as tie
-use Rattle.counting.proofs.single.apply.Reads as reads
-use Rattle.counting.proofs.single.apply.Lts as lts
-use Rattle.counting.proofs.entry.put_entry.Reads as put-entry-reads
-use Rattle.counting.proofs.moves.delete_ref.Reads as delete-ref-reads
-use Rattle.counting.proofs.moves.new_ref.Reads as new-ref-reads
-use Rattle.counting.proofs.moves.readable_to_writeable.Reads as readable-to-writeable-reads
-use Rattle.counting.proofs.moves.writeable_to_readable.Reads as writeable-to-readable-reads
-use Rattle.counting.proofs.single.settle.Reads as settle-reads
 
--- src/single.rt:60:45
 enum-known-x : tie.Need-enum-known-x
 enum-known-x c = search needs
 
--- src/single.rt:60:59
 writeable-to-readable-requires : tie.Need-writeable-to-readable-requires
 writeable-to-readable-requires c κs = search needs
 
--- src/single.rt:60:52
 settle-requires : tie.Need-settle-requires
 settle-requires c κs = search needs
 
--- src/single.rt:61:35
 enum-known-x-2 : tie.Need-enum-known-x-2
 enum-known-x-2 c = search needs
 
--- src/single.rt:61:49
 delete-ref-requires : tie.Need-delete-ref-requires
 delete-ref-requires c κs = search needs
 
--- src/single.rt:61:42
 settle-requires-2 : tie.Need-settle-requires-2
 settle-requires-2 c κs = search needs
 
--- src/single.rt:63:17
 enum-told : tie.Need-enum-told
 enum-told c = search needs
 
--- src/single.rt:63:17
 readable-to-writeable-requires : tie.Need-readable-to-writeable-requires
 readable-to-writeable-requires c κs = search needs
 
--- src/single.rt:65:17
 settle-requires-3 : tie.Need-settle-requires-3
 settle-requires-3 c κs = search needs
 
--- src/single.rt:65:17
 returns : tie.Need-returns
 returns c = search withdraw-refused
 
--- src/single.rt:67:17
 put-entry-requires : tie.Need-put-entry-requires
 put-entry-requires c κs = search needs
 
--- src/single.rt:68:13
 settle-requires-4 : tie.Need-settle-requires-4
 settle-requires-4 c κs = search needs
 
--- src/single.rt:71:17
 enum-told-2 : tie.Need-enum-told-2
 enum-told-2 c = search needs
 
--- src/single.rt:71:17
 new-ref-requires : tie.Need-new-ref-requires
 new-ref-requires c κs = search needs
 
--- src/single.rt:73:17
 settle-requires-5 : tie.Need-settle-requires-5
 settle-requires-5 c κs = search needs
 
--- src/single.rt:73:17
 returns-2 : tie.Need-returns-2
 returns-2 c = search new-refused
 
--- src/single.rt:75:17
 put-entry-requires-2 : tie.Need-put-entry-requires-2
 put-entry-requires-2 c κs = search needs
 
--- src/single.rt:76:13
 settle-requires-6 : tie.Need-settle-requires-6
 settle-requires-6 c κs = search needs
 
--- src/single.rt:54:1
 returns-3 : tie.Need-returns-3
 returns-3 c = search write-arm
 
--- src/single.rt:54:1
 returns-4 : tie.Need-returns-4
 returns-4 c = search delete-arm
 
--- src/single.rt:54:1
 same-length : tie.Need-same-length
 same-length c = search needs
 
--- src/single.rt:54:1
 returns-5 : tie.Need-returns-5
 returns-5 c = search withdraw-arm
 
--- src/single.rt:54:1
 same-length-2 : tie.Need-same-length-2
 same-length-2 c = search needs
 
--- src/single.rt:54:1
 returns-6 : tie.Need-returns-6
 returns-6 c = search new-arm
 
