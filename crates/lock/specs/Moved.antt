@@ -6,7 +6,7 @@ use lib.Dec.{ltb}
 use Rattle.machine.specs.Check.{Check}
 use Rattle.machine.specs.Move.{moveCode, moveTo}
 use Rattle.schedule.specs.Limits as limit
-use Rattle.lock.specs.Lock.{startTests, checkTests, excFinishTests, releaseTests, emptyTests, roomTests, pendingTests, guardTests, starting, checking, taking, storing, announced, granted, released}
+use Rattle.lock.specs.Lock.{startTests, excFinishTests, releaseTests, emptyTests, roomTests, pendingTests, guardTests, starting, checking, taking, storing, announced, granted, released}
 use Rattle.lock.specs.declared.state.Cell.{Cell}
 use Rattle.lock.specs.declared.state.Head.{Head}
 use Rattle.lock.specs.declared.writer.HeadMoved.{HeadMoved}

@@ -1,15 +1,12 @@
--- dist_rwlock.rs, DistRwLock<T>, transcribed with numbers for T: its fields, `initialize`, its seven transitions, what they deposit and withdraw, the
--- property `do_guard` and the six invariants, under their own names. A map is a function to options, a multiset a function to counts. A transition
+-- dist_rwlock.rs, DistRwLock<T>, transcribed with numbers for T: its fields, `initialize`, its seven transitions and what they deposit and
+-- withdraw, under their own names. The invariants and `do_guard` are in specs/Invariants.antt. A map is a function to options, a multiset a function to counts. A transition
 -- is a record with the variables that a `let` binds, a field for each `require`, `have` and for what a `remove` needs, and the state after as one
 -- equation. Assumes nothing.
 use Prim.Native.Nat.{ℕ, _+_, _-_, _≤_, _<_}
 use mathlib.Core.Path.{_≡_}
 use mathlib.Core.Bool.{Bool, true, false, cond, _&&_}
-use mathlib.Core.Logic.{_⊎_}
-use mathlib.Core.List.{List, [], _∷_}
 use mathlib.Core.Option.{Option, none, some, Option·getD}
 use lib.Dec.{eqb, ltb}
-use Rattle.rows.specs.Walk.{sum}
 use Rattle.machine.specs.Multiset.{Multiset, empty, insert, remove}
 
 pub record DistRwLock : Type 0 where

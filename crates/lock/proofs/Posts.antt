@@ -1,0 +1,122 @@
+-- An accepted step is the source's transition, to what the state after it stands for. Assumes nothing.
+use Prim.Native.Nat.{ℕ}
+use mathlib.Core.Path.{_≡_, refl, sym, _∙_, ap}
+use mathlib.Core.Bool.{true}
+use mathlib.Core.Option.{Option, Option·getD}
+use native.Mathlib.Omega.{arith}
+use lib.Dec.{eqb, ltb}
+use borrow.Author.Tests.{eqb-true, ltb-true, not-true}
+use Rattle.rows.proofs.Cases.{on}
+use Rattle.rows.proofs.Row.{row}
+use Rattle.machine.specs.Machine.{Accepted}
+use Rattle.machine.specs.Multiset.{Multiset}
+use Rattle.machine.proofs.Multisets.{only}
+use Rattle.schedule.specs.declared.steps.LockStep.{LockStep}
+use Rattle.schedule.specs.declared.steps.LockStep.the-variants.{ExcStart, ExcCheckCount, ExcFinish, ExcRelease, SharedStart, SharedFinish, SharedRelease}
+use Rattle.lock.specs.Source as source
+use Rattle.lock.specs.Source.{DistRwLock, at-key, with-readers, Moves}
+use Rattle.lock.specs.Lock.{lock, zeroCell, cell, withCell, next}
+use Rattle.lock.specs.Refined.{abs, label}
+use Rattle.lock.specs.declared.state.Cell.{Cell}
+use Rattle.lock.specs.declared.state.State.{State}
+use Rattle.lock.proofs.Filtered.{carrying-none, carrying-more, carrying-less}
+use Rattle.lock.proofs.Phases.{unlocked-away}
+use Rattle.lock.proofs.Plain.{Plain}
+use Rattle.lock.proofs.Changed.{in-row, at-start, at-finish, at-release}
+use Rattle.lock.proofs.Kept.{plain-next}
+
+-- two states of the source are equal where they differ at most in maps and multisets, and these are equal at each place
+pub same-readers : (m : DistRwLock) {f f′ : ℕ → Option ℕ} {p p′ : Multiset ℕ} {g g′ : Multiset (ℕ × ℕ)}
+    → ((i : ℕ) → f i ≡ f′ i) → ((r : ℕ) → p r ≡ p′ r) → ((v : ℕ × ℕ) → g v ≡ g′ v) → with-readers m f p g ≡ with-readers m f′ p′ g′
+same-readers m a b c = λ i. with-readers m (λ k. a k i) (λ r. b r i) (λ v. c v i)
+
+module _ (s : State) (p : Plain s) where
+  abbrev guards : ℕ → ℕ
+  guards r = cell s r .guards
+
+  -- ---------- the writer's steps. Where the record in store changes no guard stands, so that the guards are none of either record
+
+  no-guards : (t u : ℕ) → ((r : ℕ) → guards r ≡ 0) → (v : ℕ × ℕ) → only t (guards (v .0)) (v .1) ≡ only u (guards (v .0)) (v .1)
+  no-guards t u z v = carrying-none t guards (v .0) (v .1) (z (v .0)) ∙ sym (carrying-none u guards (v .0) (v .1) (z (v .0)))
+
+  exc-start : Accepted lock s ExcStart → source.Exc-start (abs s) (abs (next s ExcStart))
+  exc-start a = record { require = not-true (s .head .locked) (a .0); update = refl }
+
+  exc-check-count : Accepted lock s ExcCheckCount → source.Exc-check-count (abs s) (abs (next s ExcCheckCount))
+  exc-check-count a =
+      record {
+        r = s .head .cursor;
+        removes = rw (a .0);
+        have = rw (a .1 .0, eqb-true (cell s (s .head .cursor) .count) 0 (a .1 .1 .0));
+        update = rw (a .0);
+      }
+
+  exc-finish : Accepted lock s ExcFinish → source.Exc-finish (abs s) (abs (next s ExcFinish))
+  exc-finish a =
+      record {
+        removes = rw (a .0, eqb-true (s .head .cursor) (s .head .width) (a .1 .0));
+        update = same-readers (abs (next s ExcFinish)) (λ i. refl) (λ r. refl)
+            (no-guards 0 (s .head .t) (λ r. plain-next s ExcFinish p a .cells r .clear refl));
+      }
+
+  exc-release : (t : ℕ) → Accepted lock s (ExcRelease t) → source.Exc-release (abs s) t (abs (next s (ExcRelease t)))
+  exc-release t a =
+      record {
+        removes = rw (a .0);
+        update = same-readers (abs (next s (ExcRelease t))) (λ i. refl) (λ r. refl)
+            (no-guards t (s .head .t) (λ r. p .cells r .clear (rw (a .0))));
+      }
+
+  -- ---------- the readers' steps
+
+  -- the map with the new count at r
+  counts-at : (r : ℕ) (c : Cell) → ltb r (s .head .width) ≡ true → (i : ℕ)
+      → abs (withCell s r c) .ref-counts i ≡ at-key r (c .count) (abs s .ref-counts) i
+  counts-at r c l i =
+      rw (row (s .cells) r i c zeroCell (in-row s r p l))
+      (on (eqb i r) (λ b. rw (b, eqb-true i r b, l)) (λ b. rw b))
+
+  shared-start : (r : ℕ) → Accepted lock s (SharedStart r) → source.Shared-start (abs s) r (abs (next s (SharedStart r)))
+  shared-start r a =
+      let f = at-start s r (in-row s r p (a .0)) in
+      record {
+        rc = cell s r .count;
+        removes = rw (a .0);
+        update = same-readers (abs s) (counts-at r _ (a .0)) (λ q. f q .1) (λ v. ap (λ (n : ℕ). only (s .head .t) n (v .1)) (f (v .0) .2));
+      }
+
+  shared-finish : (r : ℕ) → Accepted lock s (SharedFinish r) → source.Shared-finish (abs s) r (abs (next s (SharedFinish r)))
+  shared-finish r a =
+      let f = at-finish s r (in-row s r p (a .0)) (ltb-true 0 (cell s r .pending) (a .1 .1 .0)) in
+      let e = not-true (s .head .locked) (a .1 .0) in
+      let t : Option·getD (abs s .storage) 0 ≡ s .head .t = rw (unlocked-away (p .phase) e .0) in
+      record {
+        require = e;
+        removes = ltb-true 0 (cell s r .pending) (a .1 .1 .0);
+        update = same-readers (abs s) (λ i. rw (f i .0)) (λ q. omega (arith, f q .1))
+            (λ v. rw t (carrying-more (s .head .t) r guards (λ q. cell (next s (SharedFinish r)) q .guards) (λ q. f q .2) v));
+      }
+
+  shared-release : (r t : ℕ) → Accepted lock s (SharedRelease r t) → source.Shared-release (abs s) (r, t) (abs (next s (SharedRelease r t)))
+  shared-release r t a =
+      let g = ltb-true 0 (cell s r .guards) (a .1 .0) in
+      let f = at-release s r (in-row s r p (a .0)) t g (p .cells r .counted) in
+      record {
+        rc = cell s r .count;
+        removes-guard = rw (a .1 .1 .1 .0) g;
+        removes = rw (a .0);
+        update = rw (eqb-true t (s .head .t) (a .1 .1 .1 .0))
+            (same-readers (abs s) (counts-at r _ (a .0)) (λ q. f q .1)
+            (carrying-less (s .head .t) r guards (λ q. cell (next s (SharedRelease r t)) q .guards) (λ q. f q .2)));
+      }
+
+-- ---------- every step
+
+pub plain-moves : (s : State) (x : LockStep) → Plain s → Accepted lock s x → Moves (abs s) (label x) (abs (next s x))
+plain-moves s ExcStart p a = exc-start s p a
+plain-moves s ExcCheckCount p a = exc-check-count s p a
+plain-moves s ExcFinish p a = exc-finish s p a
+plain-moves s (ExcRelease t) p a = exc-release s p t a
+plain-moves s (SharedStart r) p a = shared-start s p r a
+plain-moves s (SharedFinish r) p a = shared-finish s p r a
+plain-moves s (SharedRelease r t) p a = shared-release s p r t a

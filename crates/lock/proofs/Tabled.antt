@@ -1,0 +1,6 @@
+-- The table of cases holds of the lock as defined: one claim, proved by computing it. Assumes nothing.
+use mathlib.Core.Path.{refl}
+use Rattle.lock.specs.Cases.{Tabled}
+
+pub tabled : Tabled
+tabled = refl
