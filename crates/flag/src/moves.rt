@@ -112,13 +112,12 @@ pub fn exchange(place: u8, pending: u8, value: bool) -> Went
 pub fn offering(places: [u8; limits::THREADS]) -> u8
     ensures { λ r. ⌜ r ≡ owner places ⌝ }
 {
-    let mut i: u8 = 0;
-    while i < limits::THREADS as u8 {
-        let at = i as usize;
-        if places[at] == 5 {
-            return i;
+    let mut i: usize = 0;
+    while i < limits::THREADS {
+        if places[i] == 5 {
+            return i as u8;
         }
         i += 1;
     }
-    i
+    i as u8
 }

@@ -27,12 +27,8 @@ fn places_sound(s: State) -> bool
     while i < limits::THREADS {
         let p = s.places[i];
         if place_sound(s.threads, i, p) {
-            if p == 5 {
-                fives += 1;
-            }
-            if p == 6 {
-                sixes += 1;
-            }
+            fives += (p == 5) as usize;
+            sixes += (p == 6) as usize;
             i += 1;
             continue;
         }

@@ -1,0 +1,6 @@
+pub mod Offers
+pub mod Walking
+pub mod Writes
+pub mod Moved
+pub mod Answering
+pub mod Settled

@@ -1,0 +1,56 @@
+-- `flag::entry::put_flip` meets its contract: its stores are a run of stores, or none is made. Assumes nothing.
+use native.Mathlib.Omega.{arith}
+use borrow.Author.Needs.{needs}
+use lib.ListN.{length-set}
+use Rattle.flag.proofs.Writes.{flip-short, flip-past, flip-laid}
+use Rattle.flag.proofs.entry.put_flip.Statement.{statement}
+use Rattle.flag.proofs.entry.put_flip.Tie as tie
+
+returns : tie.Need-returns
+returns c = search flip-short
+
+sub-if2 : tie.Need-sub-if2
+sub-if2 c = search needs
+
+returns-2 : tie.Need-returns-2
+returns-2 c = search flip-past
+
+slice-write-log : tie.Need-slice-write-log
+slice-write-log c = search needs
+
+add-p : tie.Need-add-p
+add-p c = search needs
+
+slice-write-log-2 : tie.Need-slice-write-log-2
+slice-write-log-2 c = simp length-set (omega arith)
+
+add-q : tie.Need-add-q
+add-q c = search needs
+
+slice-write-log-3 : tie.Need-slice-write-log-3
+slice-write-log-3 c = simp length-set (omega arith)
+
+add-result : tie.Need-add-result
+add-result c = search needs
+
+same-length : tie.Need-same-length
+same-length c = search needs
+
+returns-3 : tie.Need-returns-3
+returns-3 c = search flip-laid
+
+pub put-flip-spec : {M : Type 1} → statement M
+put-flip-spec =
+    tie.close
+    (tie.spec
+    returns
+    sub-if2
+    returns-2
+    slice-write-log
+    add-p
+    slice-write-log-2
+    add-q
+    slice-write-log-3
+    add-result
+    same-length
+    returns-3)
