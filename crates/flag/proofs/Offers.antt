@@ -1,37 +1,111 @@
--- The loop that looks for the first thread that offers its flip: its invariant, a turn, and its ways out. Assumes nothing.
-use mathlib.Core.Path.{_≡_}
-use mathlib.Core.List.{List, _∷_}
-use Prim.Native.Nat.{ℕ, suc, _+_, _≤_, _<_}
-use native.Mathlib.Nat.{add-zero, zero-add}
+-- The source's protocol, told by two counts: how many threads stand at 5 and how many at 6. Assumes nothing.
+use Prim.Native.Nat.{ℕ, zero, suc, _+_}
+use mathlib.Core.Path.{_≡_, refl, sym, _∙_}
+use mathlib.Core.Bool.{true, false}
+use mathlib.Core.Logic.{inl, inr}
+use mathlib.Core.List.{List}
 use native.Mathlib.Omega.{arith}
-use borrow.Author.Tests.{eq-eqb, ne-eqb}
-use lib.ListN.{length, getD, drop}
-use Rattle.rows.proofs.Rows.{drop-one, drop-end}
-use Rattle.schedule.specs.Limits as limit
-use Rattle.flag.specs.Flag.{owner}
+use lib.Dec.{eqb}
+use lib.ListN.{getD}
+use borrow.Author.Tests.{eqb-true, eq-eqb, ne-eqb}
+use Rattle.rows.specs.Walk.{many}
+use Rattle.rows.proofs.Cases.{clash, both-true, true-both}
+use Rattle.rows.proofs.Row.{many-none}
+use Rattle.flag.specs.Source as source
+use Rattle.flag.specs.Source.{Control, Protocol, Waits, Empty, Offering, Accepted}
+use Rattle.flag.specs.Sound.{isFive, isSix, handshake}
+use Rattle.flag.specs.Refined.{control}
+use Rattle.flag.proofs.Loop.{waiting, second-five, waits-waiting, waiting-waits, five-second, six-store}
+use Rattle.flag.proofs.Counts.{cannot, first-place, first-passes, none-many, sole-many, many-one, many-either}
 
-module _ (places : List ℕ) where
-  -- no thread before i offers
-  pub record Looking (i : ℕ) : Type 0 where
-    pub below : i ≤ limit.threads
-    pub long : length places ≡ limit.threads
-    pub rest : i + owner (drop i places) ≡ owner places
+-- `pending` d with `fives` threads at 5 and `sixes` at 6
+abbrev pub Handshake : ℕ → ℕ → ℕ → Type 0
+Handshake zero fives sixes = (fives ≡ 0) × (sixes ≡ 0)
+Handshake (suc zero) fives sixes = (fives ≡ 1) × (sixes ≡ 0)
+Handshake (suc (suc zero)) fives sixes = fives + sixes ≡ 1
+Handshake (suc (suc (suc d))) fives sixes = ⊥
 
-  pub looking-begins : length places ≡ limit.threads → Looking 0
-  looking-begins l = record { below = omega arith; long = l; rest = zero-add (owner places) }
+-- ---------- the test says it
 
-  module _ (i : ℕ) (t : Looking i) where
-    pub looking-ends : limit.threads ≤ i → i ≡ owner places
-    looking-ends h = let l : length places ≤ i = omega (arith, t .long) in rw (drop-end places i l, add-zero) at (t .rest)
+pub test-hands : (d a b : ℕ) → handshake d a b ≡ true → Handshake d a b
+test-hands zero a b h =
+    let k = both-true (eqb a 0) (eqb b 0) h in
+    (eqb-true a 0 (k .0), eqb-true b 0 (k .1))
+test-hands (suc zero) a b h =
+    let k = both-true (eqb a 1) (eqb b 0) h in
+    (eqb-true a 1 (k .0), eqb-true b 0 (k .1))
+test-hands (suc (suc zero)) a b h = eqb-true (a + b) 1 h
+test-hands (suc (suc (suc d))) a b h =
+    let p = suc (suc (suc d)) in
+    let z = rw (ne-eqb p 0 (λ e. omega arith), ne-eqb p 1 (λ e. omega arith), ne-eqb p 2 (λ e. omega arith)) at h in
+    clash (cc)
 
-    module _ (h : i < limit.threads) where
-      here : drop i places ≡ getD places i 0 ∷ drop (i + 1) places
-      here = drop-one places i 0 (omega (arith, t .long))
+pub hands-test : (d a b : ℕ) → Handshake d a b → handshake d a b ≡ true
+hands-test zero a b h = true-both (eq-eqb a 0 (h .0)) (eq-eqb b 0 (h .1))
+hands-test (suc zero) a b h = true-both (eq-eqb a 1 (h .0)) (eq-eqb b 0 (h .1))
+hands-test (suc (suc zero)) a b h = eq-eqb (a + b) 1 h
+hands-test (suc (suc (suc d))) a b h = absurd h
 
-      pub looking-stops : getD places i 0 ≡ 5 → i ≡ owner places
-      looking-stops e = rw (here, eq-eqb (getD places i 0) 5 e, add-zero) at (t .rest)
+-- ---------- the counts are the protocol's three cases
 
-      pub looking-more : (getD places i 0 ≡ 5 → ⊥) → Looking (i + 1)
-      looking-more n =
-          let past : i + suc (owner (drop (i + 1) places)) ≡ owner places = rw (here, ne-eqb (getD places i 0) 5 n) at (t .rest) in
-          record { below = omega arith; long = t .long; rest = omega arith }
+five-not-six : (p : ℕ) → isFive p ≡ true → isSix p ≡ false
+five-not-six p b = rw (eqb-true p 5 b)
+
+-- those who wait stand at 5 or 6
+waiting-counts : (ps : List ℕ) → many waiting ps ≡ many isFive ps + many isSix ps
+waiting-counts ps = many-either isFive isSix five-not-six ps
+
+abbrev loops : List ℕ → ℕ → Control
+loops ps k = control (getD ps k 0)
+
+-- nobody waits, or one alone does
+none-waits : (ps : List ℕ) → many waiting ps ≡ 0 → (k : ℕ) → Waits (loops ps k) → ⊥
+none-waits ps m k w =
+    let z = many-none waiting ps 0 refl m k in
+    let t = waits-waiting (getD ps k 0) w in
+    clash (cc)
+
+one-waits : (ps : List ℕ) (k : ℕ) → many waiting ps ≡ 1 → Waits (loops ps k) → (j : ℕ) → Waits (loops ps j) → j ≡ k
+one-waits ps k m w j v = many-one waiting ps k 0 refl m (waits-waiting (getD ps k 0) w) j (waits-waiting (getD ps j 0) v)
+
+pub hands-protocol : (d : ℕ) (ps : List ℕ) → Handshake d (many isFive ps) (many isSix ps) → Protocol d (loops ps)
+hands-protocol zero ps h = Empty refl (none-waits ps (omega (arith, waiting-counts ps)))
+hands-protocol (suc zero) ps h =
+    let k = first-place isFive ps in
+    let e = five-second (getD ps k 0) (first-passes isFive ps 0 (omega (arith, h .0)) .0) in
+    Offering k refl e (one-waits ps k (omega (arith, waiting-counts ps)) (inl e))
+hands-protocol (suc (suc zero)) ps h =
+    let k = first-place waiting ps in
+    let m : many waiting ps ≡ 1 = omega (arith, waiting-counts ps) in
+    let w = waiting-waits (getD ps k 0) (first-passes waiting ps 0 (omega arith) .0) in
+    Accepted k refl w (one-waits ps k m w)
+hands-protocol (suc (suc (suc d))) ps h = absurd h
+
+-- ---------- and the three cases have these counts
+
+-- who does not wait stands at neither
+module _ (ps : List ℕ) (j : ℕ) (n : Waits (loops ps j) → ⊥) where
+  not-waiting : waiting (getD ps j 0) ≡ false
+  not-waiting = cannot (waiting (getD ps j 0)) (λ b. n (waiting-waits (getD ps j 0) b))
+
+  not-five : isFive (getD ps j 0) ≡ false
+  not-five = cannot (isFive (getD ps j 0)) (λ b. n (inl (five-second (getD ps j 0) b)))
+
+  not-six : isSix (getD ps j 0) ≡ false
+  not-six = cannot (isSix (getD ps j 0)) (λ b. n (inr (six-store (getD ps j 0) b)))
+
+-- the one who offers stands at 5, and so not at 6
+sixes-beside : (ps : List ℕ) (k : ℕ) → loops ps k ≡ source.try-handshake-second → ((j : ℕ) → Waits (loops ps j) → j ≡ k) → (j : ℕ) → isSix (getD ps j 0) ≡ false
+sixes-beside ps k e f j = cannot (isSix (getD ps j 0)) (λ b.
+    let s = six-store (getD ps j 0) b in
+    let q = f j (inr s) in
+    clash (cc))
+
+pub protocol-hands : (d : ℕ) (ps : List ℕ) → Protocol d (loops ps) → Handshake d (many isFive ps) (many isSix ps)
+protocol-hands d ps (Empty z n) = rw z (none-many isFive ps 0 (λ j. not-five ps j (n j)), none-many isSix ps 0 (λ j. not-six ps j (n j)))
+protocol-hands d ps (Offering k z e f) =
+    rw z
+    (sole-many isFive ps k 0 refl (rw (second-five (getD ps k 0) e)) (λ j n. not-five ps j (λ w. n (f j w))), none-many isSix ps 0 (sixes-beside ps k e f))
+protocol-hands d ps (Accepted k z w f) =
+    rw z
+    (sym (waiting-counts ps) ∙ sole-many waiting ps k 0 refl (waits-waiting (getD ps k 0) w) (λ j n. not-waiting ps j (λ v. n (f j v))))

@@ -4,7 +4,9 @@ use mathlib.Core.Path.{_≡_}
 use mathlib.Core.Bool.{Bool, true, false, not}
 use mathlib.Core.List.{List, [], _∷_, _++_}
 use lib.Dec.{eqb}
-use Rattle.machine.specs.History.{Event, History, Run, did#, logged#}
+use Rattle.machine.specs.Machine.{Accepted}
+use Rattle.machine.specs.History.{Event, History, Run, did#, logged#, stepsOf}
+use Rattle.machine.specs.Replay.{after}
 use Rattle.schedule.specs.Limits as limit
 use Rattle.schedule.specs.declared.steps.FlagStep.{FlagStep}
 use Rattle.schedule.specs.declared.steps.FlagStep.the-variants.{Begin, Move, Read}
@@ -49,20 +51,23 @@ abbrev pub turned : ℕ → Bool → Bool
 turned zero v = v
 turned (suc n) v = not (turned n v)
 
--- after h thread k has no flip under way: its read is accepted there
+-- after h thread k has no flip under way: its read is accepted where the steps of h lead. Their logs play no part, so that a history that logs amiss
+-- has its finished flips all the same
 abbrev pub MayRead : State → Hist → ℕ → Type 0
-MayRead s₀ h k = (es : List Entry) × (s : State) × Run flag s₀ (event (Read k) es ∷ h) s
+MayRead s₀ h k = Accepted flag (after flag s₀ (stepsOf h)) (Read k)
 
--- ---------- the demand. A flip of k runs from its begin to the thread's next begin
+-- ---------- the demand. A flip of k runs from its begin to the thread's next begin, and is told apart wherever it stands in h: before it, during it,
+-- later than its end, and the rest
 
 pub record Demand (s₀ : State) (v₀ : Bool) (h : Hist) : Type 0 where
   -- no thread has more flips logged than begun
   pub none-unbegun : (k : ℕ) → flips h k ≤ begins h k
   -- a flip is logged at most once, and never by its own begin
-  pub at-most-once : (k : ℕ) (during before : Hist) (es : List Entry) → h ≡ during ++ (event (Begin k) es ∷ before) → begins during k ≡ 0
+  pub at-most-once : (k : ℕ) (rest during before : Hist) (es : List Entry) → h ≡ rest ++ (during ++ (event (Begin k) es ∷ before)) → begins during k ≡ 0
       → (es ≡ []) × (flips during k ≤ 1)
   -- a finished one, also a helped or cancelled one, exactly once, by a step after its beginning and not after its end
-  pub finished-once : (k : ℕ) (later during before : Hist) (es : List Entry) → h ≡ later ++ (during ++ (event (Begin k) es ∷ before)) → begins during k ≡ 0 → begins later k ≡ 0
+  pub finished-once : (k : ℕ) (rest later during before : Hist) (es : List Entry) → h ≡ rest ++ (later ++ (during ++ (event (Begin k) es ∷ before)))
+      → begins during k ≡ 0 → begins later k ≡ 0
       → MayRead s₀ (during ++ (event (Begin k) es ∷ before)) k → (flips during k ≡ 1) × (flips later k ≡ 0)
   -- each read shows the initial value turned once for every flip logged before it
   pub reads : (k : ℕ) (later before : Hist) (es : List Entry) → h ≡ later ++ (event (Read k) es ∷ before) → es ≡ Saw k (turned (allFlips before) v₀) ∷ []

@@ -5,3 +5,4 @@ pub mod Single
 pub mod Source
 pub mod Refined
 pub mod Demand
+pub mod Cases

@@ -2,7 +2,7 @@
 use Prim.Native.Nat.{_-_}
 use borrow.Author.Needs.{needs}
 use Rattle.schedule.specs.Limits as limit
-use Rattle.flag.proofs.Offers.{Looking, looking-begins, looking-stops, looking-more, looking-ends}
+use Rattle.flag.proofs.Looking.{Looking, looking-begins, looking-stops, looking-more, looking-ends}
 use Rattle.flag.proofs.moves.offering.Statement.{statement}
 use Rattle.flag.proofs.moves.offering.Tie as tie
 
