@@ -87,7 +87,7 @@ fn exc_start(s: State) -> Answer
     ensures { λ r. ⌜ r ≡ quietly s ExcStart ⌝ }
 {
     let h = s.head;
-    with_head(s, writer::exc_start(h))
+    with_head(s, writer::exc_start(h), 0)
 }
 
 fn exc_check_count(s: State) -> Answer
@@ -101,7 +101,7 @@ fn exc_check_count(s: State) -> Answer
     }
     let i = h.cursor as usize;
     let c = s.cells[i];
-    with_head(s, writer::exc_check_count(h, c))
+    with_head(s, writer::exc_check_count(h, c), 0)
 }
 
 fn exc_finish(s: State, log: &mut [u8]) -> Answer
@@ -115,14 +115,14 @@ fn exc_finish(s: State, log: &mut [u8]) -> Answer
         return quiet(s, m.code);
     }
     let n = entry::put_entry(log, 0, Entry::Withdrawn { t: h.t });
-    logged(with_head(s, m), n)
+    with_head(s, m, n)
 }
 
 fn exc_release(s: State, t: u32) -> Answer
     ensures { λ r. ⌜ r ≡ quietly s (ExcRelease t) ⌝ }
 {
     let h = s.head;
-    with_head(s, writer::exc_release(h, t))
+    with_head(s, writer::exc_release(h, t), 0)
 }
 
 // ---- the readers' steps
@@ -138,7 +138,7 @@ fn shared_start(s: State, r: u8) -> Answer
     }
     let i = r as usize;
     let c = s.cells[i];
-    with_cell(s, i, reader::shared_start(c))
+    with_cell(s, i, reader::shared_start(c), 0)
 }
 
 fn shared_finish(s: State, r: u8, log: &mut [u8]) -> Answer
@@ -158,7 +158,7 @@ fn shared_finish(s: State, r: u8, log: &mut [u8]) -> Answer
         return quiet(s, m.code);
     }
     let n = entry::put_entry(log, 0, Entry::Granted { r, t: h.t });
-    logged(with_cell(s, i, m), n)
+    with_cell(s, i, m, n)
 }
 
 fn shared_release(s: State, r: u8, t: u32) -> Answer
@@ -172,37 +172,35 @@ fn shared_release(s: State, r: u8, t: u32) -> Answer
     }
     let i = r as usize;
     let c = s.cells[i];
-    with_cell(s, i, reader::shared_release(h, c, t))
+    with_cell(s, i, reader::shared_release(h, c, t), 0)
 }
 
-// ---- the answer with the moved head, the moved cell, the entry's length
+// ---- the answer with the moved head or the moved cell, and the entry's length
 
-fn with_head(s: State, m: HeadMoved) -> Answer
-    ensures { λ r. ⌜ r ≡ told (withHead s (m .head)) 0 (m .code) ⌝ }
+fn with_head(s: State, m: HeadMoved, logged: usize) -> Answer
+    ensures { λ r. ⌜ r ≡ told (withHead s (m .head)) logged (m .code) ⌝ }
 {
     let cells = s.cells;
     let head = m.head;
-    quiet(State { head, cells }, m.code)
+    Answer {
+        state: State { head, cells },
+        place: 0,
+        logged,
+        code: m.code,
+    }
 }
 
-fn with_cell(s: State, i: usize, m: CellMoved) -> Answer
+fn with_cell(s: State, i: usize, m: CellMoved, logged: usize) -> Answer
     requires { ⌜ i < limit.width ⌝ }
-    ensures { λ r. ⌜ r ≡ told (withCell s i (m .cell)) 0 (m .code) ⌝ }
+    ensures { λ r. ⌜ r ≡ told (withCell s i (m .cell)) logged (m .code) ⌝ }
 {
     let c = m.cell;
     let mut after = s;
     after.cells[i] = c;
-    quiet(after, m.code)
-}
-
-fn logged(a: Answer, n: usize) -> Answer
-    ensures { λ r. ⌜ r ≡ told (a .state) n (a .code) ⌝ }
-{
-    let s = a.state;
     Answer {
-        state: s,
+        state: after,
         place: 0,
-        logged: n,
-        code: a.code,
+        logged,
+        code: m.code,
     }
 }

@@ -3,7 +3,10 @@ use schedule::codes;
 use schedule::limits;
 ghost use mathlib.Core.Path.{_≡_};
 ghost use Prim.Native.Nat.{_+_, _*_, _≤_};
+ghost use mathlib.Core.List.{_∷_, []};
+ghost use mir.Val.{boolByte};
 ghost use lib.ListN.{length, take};
+ghost use Rattle.rows.specs.Bytes.{big};
 ghost use Rattle.rows.specs.Stores.{Laid};
 ghost use Rattle.rows.specs.Walk.{pieces};
 ghost use Rattle.schedule.specs.Limits as limit;
@@ -90,6 +93,7 @@ pub fn image(s: State, out: &mut [u8]) -> usize
 // How many cells are in use: the width, and in a made-up state no more than there are.
 fn cells_used(width: u8) -> usize
     ensures { λ r. ⌜ r ≡ inUse width ⌝ }
+    ensures { λ r. ⌜ r ≤ limit.width ⌝ }
 {
     let n = width as usize;
     if n < limits::WIDTH {
@@ -104,12 +108,28 @@ fn put_head(out: &mut [u8], h: Head) -> usize
     if out.len() < 9 {
         return 0;
     }
+    let a = put_store(out, h);
+    put_writer(out, a, h)
+}
+
+// The head's front: locked, storage present, t.
+fn put_store(out: &mut [u8], h: Head) -> usize
+    requires { ⌜ 6 ≤ length (now out) ⌝ }
+    ensures { λ r. ⌜ Laid (now (out .entry)) 0 (boolByte (h .locked) ∷ boolByte (h .stored) ∷ big 4 (h .t)) r (now (out .exit)) ⌝ }
+{
     let a = rows::put1(out, 0, h.locked as u8);
     let b = rows::put1(out, a, h.stored as u8);
-    let c = rows::put4(out, b, h.t);
-    let d = rows::put1(out, c, h.pending as u8);
-    let e = rows::put1(out, d, h.cursor);
-    rows::put1(out, e, h.guard as u8)
+    rows::put4(out, b, h.t)
+}
+
+// The head's rest, from a place of the buffer on: writer cursor present, cursor, writer guard.
+fn put_writer(out: &mut [u8], at: usize, h: Head) -> usize
+    requires { ⌜ at + 3 ≤ length (now out) ⌝ }
+    ensures { λ r. ⌜ Laid (now (out .entry)) at (boolByte (h .pending) ∷ h .cursor ∷ boolByte (h .guard) ∷ []) r (now (out .exit)) ⌝ }
+{
+    let a = rows::put1(out, at, h.pending as u8);
+    let b = rows::put1(out, a, h.cursor);
+    rows::put1(out, b, h.guard as u8)
 }
 
 // The first n cells from a place of the buffer on, three bytes each.

@@ -1,14 +1,11 @@
-use borrow.Author.Tests.{le-leb, lt-leb, lt-ltb, le-ltb, eq-eqb, ne-eqb}
+-- `lock::reader::inside` meets its contract: the place against the width. Assumes nothing.
+use borrow.Author.Tests.{lt-ltb, le-ltb}
 use Rattle.lock.proofs.reader.inside.Statement.{statement}
 use Rattle.lock.proofs.reader.inside.Tie as tie
-use Rattle.lock.proofs.reader.inside.Reads as reads
-use Rattle.lock.proofs.reader.inside.Lts as lts
 
--- src/reader.rt:22:9
 returns : tie.Need-returns
 returns c = rw (lt-ltb _ _ (c .if1 .taken))
 
--- src/reader.rt:18:1
 returns-2 : tie.Need-returns-2
 returns-2 c = rw (le-ltb _ _ (c .if1 .left))
 

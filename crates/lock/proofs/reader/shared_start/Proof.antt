@@ -1,27 +1,21 @@
-use borrow.Author.Tests.{le-leb, lt-leb, lt-ltb, le-ltb, eq-eqb, ne-eqb}
+-- `lock::reader::shared_start` meets its contract: the room at the counter decides, then the range of the numbers. Assumes nothing.
+use borrow.Author.Tests.{lt-ltb, le-ltb}
 use borrow.Author.Needs.{needs}
 use Rattle.lock.proofs.reader.shared_start.Statement.{statement}
 use Rattle.lock.proofs.reader.shared_start.Tie as tie
-use Rattle.lock.proofs.reader.shared_start.Reads as reads
-use Rattle.lock.proofs.reader.shared_start.Lts as lts
 
--- src/reader.rt:47:24
 add-t5 : tie.Need-add-t5
 add-t5 c = search needs
 
--- src/reader.rt:48:26
 add-t6 : tie.Need-add-t6
 add-t6 c = search needs
 
--- src/reader.rt:51:13
 returns : tie.Need-returns
 returns c = rw (lt-ltb _ _ (c .before .before .before .before .if1 .taken), lt-ltb _ _ (c .before .before .if2 .taken))
 
--- src/reader.rt:56:9
 returns-2 : tie.Need-returns-2
 returns-2 c = rw (lt-ltb _ _ (c .before .before .if1 .taken), le-ltb _ _ (c .if2 .left))
 
--- src/reader.rt:41:1
 returns-3 : tie.Need-returns-3
 returns-3 c = rw (le-ltb _ _ (c .if1 .left))
 

@@ -1,3 +1,4 @@
+-- `lock::sound::cells_sound` meets its contract: the loop's invariant says that the cells left decide; the measure is how many are left. Assumes nothing.
 use Prim.Native.Nat.{_-_}
 use borrow.Author.Needs.{needs}
 use Rattle.rows.proofs.Rows.{row-long}
@@ -6,9 +7,6 @@ use Rattle.schedule.specs.Limits as limit
 use Rattle.lock.specs.Sound.{cellSound}
 use Rattle.lock.proofs.sound.cells_sound.Statement.{statement}
 use Rattle.lock.proofs.sound.cells_sound.Tie as tie
-use Rattle.lock.proofs.sound.cells_sound.Reads as reads
-use Rattle.lock.proofs.sound.cells_sound.Lts as lts
-use Rattle.lock.proofs.sound.cell_sound.Reads as cell-sound-reads
 
 abbrev Inv-loop : tie.InvT-loop
 Inv-loop s h i₀ i = Testing (cellSound (s .head)) (s .cells) limit.width i
@@ -16,39 +14,30 @@ Inv-loop s h i₀ i = Testing (cellSound (s .head)) (s .cells) limit.width i
 abbrev μ-loop : tie.MeasureT-loop
 μ-loop s h i₀ i = limit.width - i
 
--- src/sound.rt:25:5
 loop-holds : tie.Need-loop-holds Inv-loop μ-loop
 loop-holds c = testing-begins _ _ _ (search (needs, row-long))
 
--- src/sound.rt:26:17
 mul-c : tie.Need-mul-c Inv-loop μ-loop
 mul-c c = search needs
 
--- src/sound.rt:26:17
 element-copy-out-c : tie.Need-element-copy-out-c Inv-loop μ-loop
 element-copy-out-c c = search needs
 
--- src/sound.rt:27:12
 cell-sound-requires : tie.Need-cell-sound-requires Inv-loop μ-loop
 cell-sound-requires c κs = search needs
 
--- src/sound.rt:28:13
 add-i : tie.Need-add-i Inv-loop μ-loop
 add-i c = search needs
 
--- src/sound.rt:25:5
 loop-less : tie.Need-loop-less Inv-loop μ-loop
 loop-less c = search needs
 
--- src/sound.rt:25:5
 loop-again : tie.Need-loop-again Inv-loop μ-loop
 loop-again c = search testing-more
 
--- src/sound.rt:31:9
 returns : tie.Need-returns Inv-loop μ-loop
 returns c = search testing-stops
 
--- src/sound.rt:20:1
 returns-2 : tie.Need-returns-2 Inv-loop μ-loop
 returns-2 c = search testing-ends
 

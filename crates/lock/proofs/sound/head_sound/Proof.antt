@@ -1,59 +1,45 @@
-use borrow.Author.Tests.{le-leb, lt-leb, lt-ltb, le-ltb, eq-eqb, ne-eqb}
+-- `lock::sound::head_sound` meets its contract: each answer is the first of the definition's tests that decides. Assumes nothing.
+use borrow.Author.Tests.{lt-ltb, le-ltb, eq-eqb, ne-eqb}
 use borrow.Author.Needs.{needs}
 use Rattle.lock.proofs.sound.head_sound.Statement.{statement}
 use Rattle.lock.proofs.sound.head_sound.Tie as tie
-use Rattle.lock.proofs.sound.head_sound.Reads as reads
-use Rattle.lock.proofs.sound.head_sound.Lts as lts
 
--- src/sound.rt:34:9
 returns : tie.Need-returns
 returns c = rw (eq-eqb _ _ (c .if1 .taken))
 
--- src/sound.rt:36:24
 cast-if2 : tie.Need-cast-if2
 cast-if2 c = search needs
 
--- src/sound.rt:37:9
 returns-2 : tie.Need-returns-2
 returns-2 c = rw (ne-eqb _ _ (c .before .before .if1 .left), lt-ltb _ _ (c .if2 .taken))
 
--- src/sound.rt:41:13
 returns-3 : tie.Need-returns-3
 returns-3 c = rw (ne-eqb _ _ (c .before .before .before .before .if1 .left), le-ltb _ _ (c .before .before .if2 .left), c .before .if3 .taken, c .if4 .taken)
 
--- src/sound.rt:44:13
 returns-4 : tie.Need-returns-4
 returns-4 c = rw (ne-eqb _ _ (c .before .before .before .before .before .if1 .left), le-ltb _ _ (c .before .before .before .if2 .left), c .before .before .if3 .taken, c .before .if4 .left, c .if5 .taken)
 
--- src/sound.rt:47:13
 returns-5 : tie.Need-returns-5
 returns-5 c = rw (ne-eqb _ _ (c .before .before .before .before .before .before .before .if1 .left), le-ltb _ _ (c .before .before .before .before .before .if2 .left), c .before .before .before .before .if3 .taken, c .before .before .before .if4 .left, c .before .before .if5 .left, ne-eqb _ _ (c .if6 .taken))
 
--- src/sound.rt:50:13
 returns-6 : tie.Need-returns-6
 returns-6 c = rw (ne-eqb _ _ (c .before .before .before .before .before .before .before .before .before .if1 .left), le-ltb _ _ (c .before .before .before .before .before .before .before .if2 .left), c .before .before .before .before .before .before .if3 .taken, c .before .before .before .before .before .if4 .left, c .before .before .before .before .if5 .left, eq-eqb _ _ (c .before .before .if6 .left), ne-eqb _ _ (c .if7 .taken))
 
--- src/sound.rt:52:9
 returns-7 : tie.Need-returns-7
 returns-7 c = rw (ne-eqb _ _ (c .before .before .before .before .before .before .before .before .before .if1 .left), le-ltb _ _ (c .before .before .before .before .before .before .before .if2 .left), c .before .before .before .before .before .before .if3 .taken, c .before .before .before .before .before .if4 .left, c .before .before .before .before .if5 .left, eq-eqb _ _ (c .before .before .if6 .left), eq-eqb _ _ (c .if7 .left))
 
--- src/sound.rt:57:17
 returns-8 : tie.Need-returns-8
 returns-8 c = rw (ne-eqb _ _ (c .before .before .before .before .before .before .before .if1 .left), le-ltb _ _ (c .before .before .before .before .before .if2 .left), c .before .before .before .before .if3 .left, c .before .before .before .if8 .taken, c .before .before .if9 .taken, lt-ltb _ _ (c .if10 .taken))
 
--- src/sound.rt:59:13
 returns-9 : tie.Need-returns-9
 returns-9 c = rw (ne-eqb _ _ (c .before .before .before .before .before .before .before .if1 .left), le-ltb _ _ (c .before .before .before .before .before .if2 .left), c .before .before .before .before .if3 .left, c .before .before .before .if8 .taken, c .before .before .if9 .taken, le-ltb _ _ (c .if10 .left))
 
--- src/sound.rt:62:13
 returns-10 : tie.Need-returns-10
 returns-10 c = rw (ne-eqb _ _ (c .before .before .before .before .before .before .if1 .left), le-ltb _ _ (c .before .before .before .before .if2 .left), c .before .before .before .if3 .left, c .before .before .if8 .taken, c .before .if9 .left, c .if11 .taken)
 
--- src/sound.rt:64:9
 returns-11 : tie.Need-returns-11
 returns-11 c = rw (ne-eqb _ _ (c .before .before .before .before .before .before .before .if1 .left), le-ltb _ _ (c .before .before .before .before .before .if2 .left), c .before .before .before .before .if3 .left, c .before .before .before .if8 .taken, c .before .before .if9 .left, c .before .if11 .left)
 
--- src/sound.rt:30:1
 returns-12 : tie.Need-returns-12
 returns-12 c = rw (ne-eqb _ _ (c .before .before .before .before .if1 .left), le-ltb _ _ (c .before .before .if2 .left), c .before .if3 .left, c .if8 .left)
 

@@ -1,18 +1,14 @@
-use borrow.Author.Tests.{le-leb, lt-leb, lt-ltb, le-ltb, eq-eqb, ne-eqb}
+-- `lock::writer::exc_finish` meets its contract: the phase, then the cursor. Assumes nothing.
+use borrow.Author.Tests.{eq-eqb, ne-eqb}
 use Rattle.lock.proofs.writer.exc_finish.Statement.{statement}
 use Rattle.lock.proofs.writer.exc_finish.Tie as tie
-use Rattle.lock.proofs.writer.exc_finish.Reads as reads
-use Rattle.lock.proofs.writer.exc_finish.Lts as lts
 
--- src/writer.rt:100:13
 returns : tie.Need-returns
 returns c = rw (c .before .before .if1 .taken, eq-eqb _ _ (c .if2 .taken))
 
--- src/writer.rt:105:9
 returns-2 : tie.Need-returns-2
 returns-2 c = rw (c .before .before .if1 .taken, ne-eqb _ _ (c .if2 .left))
 
--- src/writer.rt:86:1
 returns-3 : tie.Need-returns-3
 returns-3 c = rw (c .if1 .left)
 

@@ -1,14 +1,10 @@
-use borrow.Author.Tests.{le-leb, lt-leb, lt-ltb, le-ltb, eq-eqb, ne-eqb}
+-- `lock::writer::exc_release` meets its contract: the guard decides. Assumes nothing.
 use Rattle.lock.proofs.writer.exc_release.Statement.{statement}
 use Rattle.lock.proofs.writer.exc_release.Tie as tie
-use Rattle.lock.proofs.writer.exc_release.Reads as reads
-use Rattle.lock.proofs.writer.exc_release.Lts as lts
 
--- src/writer.rt:130:9
 returns : tie.Need-returns
 returns c = rw (c .if1 .taken)
 
--- src/writer.rt:117:1
 returns-2 : tie.Need-returns-2
 returns-2 c = rw (c .if1 .left)
 

@@ -1,0 +1,42 @@
+-- `lock::entry::put_entry` meets its contract: each entry is laid down by its own function. Assumes nothing.
+use borrow.Author.Needs.{needs}
+use Rattle.lock.proofs.Writes.{entry-laid}
+use Rattle.lock.proofs.entry.put_entry.Statement.{statement}
+use Rattle.lock.proofs.entry.put_entry.Tie as tie
+
+enum-known-e : tie.Need-enum-known-e
+enum-known-e c = search needs
+
+put-withdrawn-requires : tie.Need-put-withdrawn-requires
+put-withdrawn-requires c κs = search needs
+
+enum-known-e-2 : tie.Need-enum-known-e-2
+enum-known-e-2 c = search needs
+
+put-granted-requires : tie.Need-put-granted-requires
+put-granted-requires c κs = search needs
+
+same-length : tie.Need-same-length
+same-length c = search needs
+
+returns : tie.Need-returns
+returns c = search entry-laid
+
+same-length-2 : tie.Need-same-length-2
+same-length-2 c = search needs
+
+returns-2 : tie.Need-returns-2
+returns-2 c = search entry-laid
+
+pub put-entry-spec : {M : Type 1} → statement M
+put-entry-spec =
+    tie.close
+    (tie.spec
+    enum-known-e
+    put-withdrawn-requires
+    enum-known-e-2
+    put-granted-requires
+    same-length
+    returns
+    same-length-2
+    returns-2)

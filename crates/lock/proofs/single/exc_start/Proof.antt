@@ -1,0 +1,17 @@
+-- `lock::single::exc_start` meets its contract: the moved head's code and state are the definition's. Assumes nothing.
+use borrow.Author.Needs.{needs}
+use Rattle.lock.proofs.Stepping.{started}
+use Rattle.lock.proofs.single.exc_start.Statement.{statement}
+use Rattle.lock.proofs.single.exc_start.Tie as tie
+
+exc-start-requires : tie.Need-exc-start-requires
+exc-start-requires c κs = search needs
+
+with-head-requires : tie.Need-with-head-requires
+with-head-requires c κs = search needs
+
+returns : tie.Need-returns
+returns c = search started
+
+pub exc-start-spec : {M : Type 1} → statement M
+exc-start-spec = tie.close (tie.spec exc-start-requires with-head-requires returns)
