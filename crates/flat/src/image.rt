@@ -30,6 +30,7 @@ pub fn image(s: State, out: &mut [u8]) -> usize
 // How many places of a row are in use: in a made-up state no more than there are.
 fn places_used(count: u8) -> usize
     ensures { λ r. ⌜ r ≡ inUse count ⌝ }
+    ensures { λ r. ⌜ r ≤ limit.clients ⌝ }
 {
     let n = count as usize;
     if n < limits::CLIENTS {

@@ -92,7 +92,7 @@ fn client_send(s: State, j: u8, rid: u32, req: u32) -> Answer
     }
     let i = j as usize;
     let c = s.clients[i];
-    with_client(s, i, client::client_send(c, rid, req))
+    with_client(s, i, client::client_send(c, rid, req), 0)
 }
 
 fn client_recv(s: State, j: u8, log: &mut [u8]) -> Answer
@@ -111,7 +111,7 @@ fn client_recv(s: State, j: u8, log: &mut [u8]) -> Answer
         return quiet(s, m.code);
     }
     let n = entry::put_answer(log, 0, j, c.rid, c.resp);
-    logged(with_client(s, i, m), n)
+    with_client(s, i, m, n)
 }
 
 // ---- the combiner's steps
@@ -230,26 +230,19 @@ fn go_to_collecting(s: State) -> Answer
     quiet(after, codes::ACCEPTED)
 }
 
-// ---- the answer with the moved client, and with the entry's length
+// ---- the answer with the moved client and the entry's length
 
-fn with_client(s: State, i: usize, m: ClientMoved) -> Answer
+fn with_client(s: State, i: usize, m: ClientMoved, logged: usize) -> Answer
     requires { ⌜ i < limit.clients ⌝ }
-    ensures { λ r. ⌜ r ≡ told (with s (set (s .clients) i (m .client)) (s .elems) (s .len) (s .idx) (s .responding)) 0 (m .code) ⌝ }
+    ensures { λ r. ⌜ r ≡ told (with s (set (s .clients) i (m .client)) (s .elems) (s .len) (s .idx) (s .responding)) logged (m .code) ⌝ }
 {
     let c = m.client;
     let mut after = s;
     after.clients[i] = c;
-    quiet(after, m.code)
-}
-
-fn logged(a: Answer, n: usize) -> Answer
-    ensures { λ r. ⌜ r ≡ told (a .state) n (a .code) ⌝ }
-{
-    let s = a.state;
     Answer {
-        state: s,
+        state: after,
         place: 0,
-        logged: n,
-        code: a.code,
+        logged,
+        code: m.code,
     }
 }

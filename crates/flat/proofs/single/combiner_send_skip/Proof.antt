@@ -1,0 +1,59 @@
+-- `flat::single::combiner_send_skip` meets its contract: the combiner's tests, then the element at the cursor, which soundness puts inside the row. Assumes nothing.
+use borrow.Author.Needs.{needs}
+use Rattle.flat.proofs.Moved.{serve-inside, serve-fits}
+use Rattle.flat.proofs.Stepping.{pass-stopped, pass-refused, passes}
+use Rattle.flat.proofs.single.combiner_send_skip.Statement.{statement}
+use Rattle.flat.proofs.single.combiner_send_skip.Tie as tie
+
+may-answer-requires : tie.Need-may-answer-requires
+may-answer-requires c κs = search needs
+
+quiet-requires : tie.Need-quiet-requires
+quiet-requires c κs = search needs
+
+returns : tie.Need-returns
+returns c = search pass-stopped
+
+cast-i : tie.Need-cast-i
+cast-i c = search needs
+
+mul-e : tie.Need-mul-e
+mul-e c = search needs
+
+element-copy-out-e : tie.Need-element-copy-out-e
+element-copy-out-e c = search serve-inside
+
+may-skip-requires : tie.Need-may-skip-requires
+may-skip-requires c κs = search needs
+
+quiet-requires-2 : tie.Need-quiet-requires-2
+quiet-requires-2 c κs = search needs
+
+returns-2 : tie.Need-returns-2
+returns-2 c = search pass-refused
+
+add-after : tie.Need-add-after
+add-after c = search serve-fits
+
+quiet-requires-3 : tie.Need-quiet-requires-3
+quiet-requires-3 c κs = search needs
+
+returns-3 : tie.Need-returns-3
+returns-3 c = search passes
+
+pub combiner-send-skip-spec : {M : Type 1} → statement M
+combiner-send-skip-spec =
+    tie.close
+    (tie.spec
+    may-answer-requires
+    quiet-requires
+    returns
+    cast-i
+    mul-e
+    element-copy-out-e
+    may-skip-requires
+    quiet-requires-2
+    returns-2
+    add-after
+    quiet-requires-3
+    returns-3)

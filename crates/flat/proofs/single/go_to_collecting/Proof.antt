@@ -1,0 +1,34 @@
+-- `flat::single::go_to_collecting` meets its contract: the combiner's tests decide. Assumes nothing.
+use borrow.Author.Needs.{needs}
+use Rattle.flat.proofs.Stepping.{collect-stopped, collects}
+use Rattle.flat.proofs.single.go_to_collecting.Statement.{statement}
+use Rattle.flat.proofs.single.go_to_collecting.Tie as tie
+
+may-collect-requires : tie.Need-may-collect-requires
+may-collect-requires c κs = search needs
+
+quiet-requires : tie.Need-quiet-requires
+quiet-requires c κs = search needs
+
+returns : tie.Need-returns
+returns c = search collect-stopped
+
+no-elem-requires : tie.Need-no-elem-requires
+no-elem-requires c κs = search needs
+
+quiet-requires-2 : tie.Need-quiet-requires-2
+quiet-requires-2 c κs = search needs
+
+returns-2 : tie.Need-returns-2
+returns-2 c = search collects
+
+pub go-to-collecting-spec : {M : Type 1} → statement M
+go-to-collecting-spec =
+    tie.close
+    (tie.spec
+    may-collect-requires
+    quiet-requires
+    returns
+    no-elem-requires
+    quiet-requires-2
+    returns-2)

@@ -1,0 +1,24 @@
+-- `flat::single::go_to_responding` meets its contract: the combiner's tests decide. Assumes nothing.
+use borrow.Author.Needs.{needs}
+use Rattle.flat.proofs.Stepping.{respond-stopped, responds}
+use Rattle.flat.proofs.single.go_to_responding.Statement.{statement}
+use Rattle.flat.proofs.single.go_to_responding.Tie as tie
+
+may-respond-requires : tie.Need-may-respond-requires
+may-respond-requires c κs = search needs
+
+quiet-requires : tie.Need-quiet-requires
+quiet-requires c κs = search needs
+
+returns : tie.Need-returns
+returns c = search respond-stopped
+
+quiet-requires-2 : tie.Need-quiet-requires-2
+quiet-requires-2 c κs = search needs
+
+returns-2 : tie.Need-returns-2
+returns-2 c = search responds
+
+pub go-to-responding-spec : {M : Type 1} → statement M
+go-to-responding-spec =
+    tie.close (tie.spec may-respond-requires quiet-requires returns quiet-requires-2 returns-2)

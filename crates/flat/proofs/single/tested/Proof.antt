@@ -1,0 +1,42 @@
+-- `flat::single::tested` meets its contract: the log's room and the state's soundness come before the machine's own tests. Assumes nothing.
+use borrow.Author.Needs.{needs}
+use Rattle.flat.proofs.Answering.{short-log, not-sound, sound-known}
+use Rattle.flat.proofs.single.tested.Statement.{statement}
+use Rattle.flat.proofs.single.tested.Tie as tie
+
+quiet-requires : tie.Need-quiet-requires
+quiet-requires c κs = search needs
+
+returns : tie.Need-returns
+returns c = search short-log
+
+is-sound-requires : tie.Need-is-sound-requires
+is-sound-requires c κs = search needs
+
+apply-requires : tie.Need-apply-requires
+apply-requires c κs = (search sound-known, search needs)
+
+same-length : tie.Need-same-length
+same-length c = search needs
+
+returns-2 : tie.Need-returns-2
+returns-2 c = search needs
+
+quiet-requires-2 : tie.Need-quiet-requires-2
+quiet-requires-2 c κs = search needs
+
+returns-3 : tie.Need-returns-3
+returns-3 c = search not-sound
+
+pub tested-spec : {M : Type 1} → statement M
+tested-spec =
+    tie.close
+    (tie.spec
+    quiet-requires
+    returns
+    is-sound-requires
+    apply-requires
+    same-length
+    returns-2
+    quiet-requires-2
+    returns-3)
