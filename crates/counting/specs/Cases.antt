@@ -5,6 +5,7 @@ use mathlib.Core.Path.{_≡_}
 use mathlib.Core.Bool.{Bool, true, false, cond, _&&_}
 use mathlib.Core.List.{List, [], _∷_}
 use lib.Dec.{eqb}
+use Rattle.rows.specs.Bytes.{alike}
 use Rattle.rows.specs.Walk.{every, pieces}
 use Rattle.machine.specs.Machine.{codeOf}
 use Rattle.schedule.specs.declared.steps.CountingStep.{CountingStep}
@@ -57,12 +58,6 @@ cases =
     ∷ []
 
 -- ---------- the machine's answer is the table's
-
-abbrev alike : List ℕ → List ℕ → Bool
-alike [] [] = true
-alike [] (y ∷ ys) = false
-alike (x ∷ xs) [] = false
-alike (x ∷ xs) (y ∷ ys) = eqb x y && alike xs ys
 
 -- what the machine's answer holds where the step is accepted, and where it is not
 abbrev if-accepted : {A : Type 0} → Case → A → A → A

@@ -7,6 +7,7 @@ use mathlib.Core.Bool.{Bool, true, false, cond, _&&_}
 use mathlib.Core.List.{List, [], _∷_}
 use lib.Dec.{eqb}
 use lib.ListN.{length, replicate}
+use Rattle.rows.specs.Bytes.{alike}
 use Rattle.rows.specs.Walk.{every, pieces}
 use Rattle.machine.specs.Machine.{codeOf}
 use Rattle.machine.specs.Replay.{replay}
@@ -151,12 +152,6 @@ runs =
     ∷ []
 
 -- ---------- the machine's answers are the tables'
-
-abbrev alike : List ℕ → List ℕ → Bool
-alike [] [] = true
-alike [] (y ∷ ys) = false
-alike (x ∷ xs) [] = false
-alike (x ∷ xs) (y ∷ ys) = eqb x y && alike xs ys
 
 abbrev pub right-start : Start → Bool
 right-start c =

@@ -1,8 +1,8 @@
 -- Bytes and the numbers that they spell, big-endian, of any width. Assumes nothing.
 use Prim.Native.Nat.{ℕ, zero, suc, _+_, _*_, _/_, _%_, _<_}
-use mathlib.Core.Bool.{cond}
+use mathlib.Core.Bool.{Bool, true, false, cond, _&&_}
 use mathlib.Core.List.{List, [], _∷_}
-use lib.Dec.{leb}
+use lib.Dec.{eqb, leb}
 use lib.ListN.{length, getD, take, drop}
 
 -- every entry is a byte, as in every slice of u8
@@ -35,3 +35,10 @@ bytesAt s at w = cond (leb (at + w) (length s)) (take w (drop at s)) []
 -- the number in the w bytes of s from `at` on, 0 where s does not have them all
 abbrev pub numberAt : List ℕ → ℕ → ℕ → ℕ
 numberAt s at w = number (bytesAt s at w)
+
+-- whether two lists of numbers are the same: for tables of cases, which compute
+abbrev pub alike : List ℕ → List ℕ → Bool
+alike [] [] = true
+alike [] (y ∷ ys) = false
+alike (x ∷ xs) [] = false
+alike (x ∷ xs) (y ∷ ys) = eqb x y && alike xs ys
