@@ -64,7 +64,8 @@ module _ (l : List ℕ) (at : ℕ) (v : Client) where
   abbrev response : List ℕ
   response = messageBytes (v .told) (v .rid) (v .resp)
 
-  module _ (h : at + length (clientBytes v) ≤ length l) (a b : ℕ) (k m : List ℕ) (flag : Laid l at (boolByte (v .waiting) ∷ []) a k) (id : Laid k a (big 4 (v .rid)) b m) where
+  module _ (h : at + length (clientBytes v) ≤ length l) (a b : ℕ) (k m : List ℕ) (flag : Laid l at (boolByte (v .waiting) ∷ []) a k)
+      (id : Laid k a (big 4 (v .rid)) b m) where
     head-laid : Laid l at head b m
     head-laid = laid-then l at (boolByte (v .waiting) ∷ []) (big 4 (v .rid)) a k b m (omega arith) flag id
 
