@@ -12,16 +12,9 @@ use Rattle.counting.specs.Image.{tagged, entryBytes, imageBytes}
 use Rattle.counting.specs.declared.entry.Entry.{Entry}
 use Rattle.counting.specs.declared.state.State.{State}
 
-module _ (l : List ℕ) (at tag t : ℕ) where
-  pub tagged-short : length l < 6 → Laid l at (tagged tag t) at l
-  tagged-short h = none-laid l at (tagged tag t) (omega arith)
-
-  pub tagged-past : 6 ≤ length l → length l - 6 < at → Laid l at (tagged tag t) at l
-  tagged-past h p = none-laid l at (tagged tag t) (omega arith)
-
-  module _ (h : 6 ≤ length l) (p : at ≤ length l - 6) (r : ℕ) (l′ : List ℕ) where
-    pub tagged-laid : Laid (set (set l at 5) (at + 1) tag) (at + 1 + 1) (big 4 t) r l′ → Laid l at (tagged tag t) r l′
-    tagged-laid k = stores-then l at (5 ∷ tag ∷ []) (big 4 t) (at + 1 + 1) r l′ (omega arith) (omega arith) k
+module _ (l : List ℕ) (at tag t : ℕ) (h : 6 ≤ length l) (p : at ≤ length l - 6) (r : ℕ) (l′ : List ℕ) where
+  pub tagged-laid : Laid (set (set l at 5) (at + 1) tag) (at + 1 + 1) (big 4 t) r l′ → Laid l at (tagged tag t) r l′
+  tagged-laid k = stores-then l at (5 ∷ tag ∷ []) (big 4 t) (at + 1 + 1) r l′ (omega arith) (omega arith) k
 
 -- a writer behind two stores leaves the buffer as long as it was
 pub tagged-length : (l : List ℕ) (at a b i r : ℕ) (bs l′ : List ℕ) → Laid (set (set l at a) (at + 1) b) i bs r l′ → length l′ ≡ length l

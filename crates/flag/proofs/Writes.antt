@@ -26,22 +26,10 @@ use Rattle.flag.specs.declared.moves.Flips.the-variants.{Nobody, Mover, 
 -- ---------- entries
 
 module _ (l : List ℕ) (at k : ℕ) where
-  pub flip-short : length l < 3 → Laid l at (entryBytes (Flip k)) at l
-  flip-short h = none-laid l at (entryBytes (Flip k)) (omega arith)
-
-  pub flip-past : 3 ≤ length l → length l - 3 < at → Laid l at (entryBytes (Flip k)) at l
-  flip-past h p = none-laid l at (entryBytes (Flip k)) (omega arith)
-
   pub flip-laid : 3 ≤ length l → at ≤ length l - 3 → Laid l at (entryBytes (Flip k)) (at + 1 + 1 + 1) (set (set (set l at 2) (at + 1) 1) (at + 1 + 1) k)
   flip-laid h p = whole-laid l at (entryBytes (Flip k)) (at + 1 + 1 + 1) _ (omega arith) (omega arith) refl
 
   module _ (v : Bool) where
-    pub saw-short : length l < 4 → Laid l at (entryBytes (Saw k v)) at l
-    saw-short h = none-laid l at (entryBytes (Saw k v)) (omega arith)
-
-    pub saw-past : 4 ≤ length l → length l - 4 < at → Laid l at (entryBytes (Saw k v)) at l
-    saw-past h p = none-laid l at (entryBytes (Saw k v)) (omega arith)
-
     pub saw-laid : 4 ≤ length l → at ≤ length l - 4
         → Laid l at (entryBytes (Saw k v)) (at + 1 + 1 + 1 + 1) (set (set (set (set l at 3) (at + 1) 2) (at + 1 + 1) k) (at + 1 + 1 + 1) (boolByte v))
     saw-laid h p = whole-laid l at (entryBytes (Saw k v)) (at + 1 + 1 + 1 + 1) _ (omega arith) (omega arith) refl

@@ -18,20 +18,13 @@ use Rattle.flat.specs.declared.state.Client.{Client}
 use Rattle.flat.specs.declared.state.Elem.{Elem}
 use Rattle.flat.specs.declared.state.State.{State}
 use Rattle.flat.specs.declared.entry.Entry.the-variants.{Answer}
-use Rattle.flat.proofs.Laying.{pieces-long}
+use Rattle.rows.proofs.Laying.{pieces-long}
 
 -- ---------- an entry
 
 module _ (l : List ℕ) (at j rid resp : ℕ) where
   abbrev bytes : List ℕ
   bytes = entryBytes (Answer j rid resp)
-
-  -- it does not fit: the buffer is too short, or the place too far back
-  pub too-short : length l < length bytes → Laid l at bytes at l
-  too-short h = none-laid l at bytes (omega arith)
-
-  pub too-far : length bytes ≤ length l → length l - length bytes < at → Laid l at bytes at l
-  too-far h p = none-laid l at bytes (omega arith)
 
   module _ (o r : ℕ) (k l′ : List ℕ) (id : Laid (set (set l at 9) (at + 1) j) (at + 1 + 1) (big 4 rid) o k) (load : Laid k o (big 4 resp) r l′) where
     pub answer-laid : length bytes ≤ length l → at ≤ length l - length bytes → Laid l at bytes r l′

@@ -104,5 +104,6 @@ pub record Demand (h : Hist) : Type 0 where
   pub after-request : (j : ℕ) → length (sends h j) ≤ length (requests h j)
   pub one-at-a-time : (j : ℕ) → length (requests h j) ≤ suc (length (answers h j))
 
+-- after every accepted prefix from a fresh machine of any number of clients in its limits
 abbrev pub Demanded : Type 0
 Demanded = (n : ℕ) → n ≤ limit.clients → (h : Hist) (s : State) → Run flat (emptyFlat n) h s → Demand h

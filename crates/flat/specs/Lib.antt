@@ -7,3 +7,4 @@ pub mod Source
 pub mod Invariants
 pub mod Refined
 pub mod Demand
+pub mod Cases

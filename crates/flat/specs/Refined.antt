@@ -64,10 +64,11 @@ label CombinerGoToCollecting = source.combiner-go-to-collecting
 
 pub record Sound (s : State) : Type 0 where
   pub inv : Invariants (abs s)
-  -- the rows are whole, the clients in their limits
+  -- the rows are whole, the clients in their limits, and what was gathered lies in its row
   pub whole-clients : length (s .clients) ≡ limit.clients
   pub whole-elems : length (s .elems) ≡ limit.clients
   pub few : s .count ≤ limit.clients
+  pub few-gathered : s .len ≤ limit.clients
   -- a client that is not there; an idle client's id; what no request and no response is stored in; the cursor while collecting; an element not gathered; the id
   -- of an empty one
   pub unused-clients : (j : ℕ) → s .count ≤ j → client s j ≡ zeroClient

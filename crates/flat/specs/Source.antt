@@ -1,6 +1,6 @@
 -- flat_combine.rs, FlatCombiner, transcribed with numbers for rid, req and resp: its fields, `initialize`, its eight transitions and what they deposit and
 -- withdraw, under their own names. A map is a function to options, the combiner's Seq a list. A transition is a record with the variables that a `let`
--- binds, a field for each `require`, `have` and for what a `remove` or a `withdraw` finds, and the state after as one equation. Assumes nothing.
+-- binds, a field for each `require`, `have` and for what a `remove` finds, and the state after as one equation. Assumes nothing.
 use Prim.Native.Nat.{ℕ, _+_, _<_}
 use mathlib.Core.Path.{_≡_}
 use mathlib.Core.Bool.{Bool, true, false, cond}
@@ -76,14 +76,14 @@ pub record Client-recv (pre : FlatCombiner) (j : ℕ) (post : FlatCombiner) : Ty
 
 -- ---------- combiner transitions
 
--- the request that is withdrawn is settled by the state: Safe says that it is there
+-- the request that is withdrawn is the one that is stored; Safe says that one is
 pub record Combiner-recv (pre post : FlatCombiner) : Type 0 where
   pub elems : List (Option ℕ)
   pub require : pre .combiner ≡ Collecting elems
   pub require-left : length elems < pre .num-clients
   pub have : pre .slots (length elems) ≡ some true
   pub request : Request
-  pub withdraws : pre .requests (length elems) ≡ some request
+  pub withdraws : (stored : Request) → pre .requests (length elems) ≡ some stored → request ≡ stored
   pub update : post ≡
       with pre (pre .clients) (pre .slots) (Collecting (elems ++ (some (request .rid) ∷ []))) (without (length elems) (pre .requests)) (pre .responses)
 
@@ -140,12 +140,12 @@ Moves pre (combiner-send response) post = Combiner-send pre response post
 Moves pre combiner-send-skip post = Combiner-send-skip pre post
 Moves pre combiner-go-to-collecting post = Combiner-go-to-collecting pre post
 
--- what the source owes of a state in which a transition deposits or withdraws: a deposit finds its place empty, a withdrawal finds what it takes, and the
--- response that a client takes carries the client's own id (a comment there)
+-- `deposit` and `withdraw` ask nothing of a caller; the source owes that they are safe: a deposit finds its place empty, a withdrawal finds what it takes,
+-- and the response that a client takes carries the client's own id (a comment there)
 abbrev pub Safe : FlatCombiner → Transition → Type 0
 Safe pre (client-send j request) = pre .requests j ≡ none
 Safe pre (client-recv j) = (rid resp : ℕ) × (pre .clients j ≡ some (Waiting rid)) × (pre .responses j ≡ some (record { rid = rid; resp = resp }))
-Safe pre combiner-recv = Unit {0}
+Safe pre combiner-recv = (elems : List (Option ℕ)) × (request : Request) × (pre .combiner ≡ Collecting elems) × (pre .requests (length elems) ≡ some request)
 Safe pre combiner-skip = Unit {0}
 Safe pre combiner-go-to-responding = Unit {0}
 Safe pre (combiner-send response) = (elems : List (Option ℕ)) × (j : ℕ) × (pre .combiner ≡ Responding elems j) × (pre .responses j ≡ none)

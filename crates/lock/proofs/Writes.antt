@@ -4,13 +4,12 @@ use mathlib.Core.List.{List, [], _∷_, _++_}
 use Prim.Native.Nat.{ℕ, _+_, _-_, _*_, _≤_, _<_}
 use native.Mathlib.Omega.{arith}
 use mir.Val.{boolByte}
-use lib.ListN.{length, getD, set, take, drop, length-set, length-append}
+use lib.ListN.{length, getD, set, take, length-set, length-append}
 use Rattle.rows.specs.Bytes.{big}
-use Rattle.rows.specs.Stores.{Laid, puts}
+use Rattle.rows.specs.Stores.{Laid}
 use Rattle.rows.specs.Walk.{pieces}
-use Rattle.rows.proofs.Rows.{first-long}
 use Rattle.rows.proofs.Stores.{whole-laid, laid-whole, none-laid, laid-then, laid-length, stores-then}
-use Rattle.rows.proofs.Walks.{first-more, first-end, pieces-even}
+use Rattle.rows.proofs.Laying.{Laying, pieces-long, laying-more}
 use Rattle.schedule.specs.Limits as limit
 use Rattle.lock.specs.Lock.{zeroCell}
 use Rattle.lock.specs.Image.{entryBytes, headBytes, cellBytes, inUse, imageBytes}
@@ -21,14 +20,6 @@ use Rattle.lock.specs.declared.entry.Entry.{Entry}
 use Rattle.lock.specs.declared.entry.Entry.the-variants.{Withdrawn, Granted}
 
 -- ---------- an entry
-
--- it does not fit: the buffer is too short, or the place too far back
-module _ (l : List ℕ) (at : ℕ) (bs : List ℕ) where
-  pub too-short : length l < length bs → Laid l at bs at l
-  too-short h = none-laid l at bs (omega arith)
-
-  pub too-far : length bs ≤ length l → length l - length bs < at → Laid l at bs at l
-  too-far h p = none-laid l at bs (omega arith)
 
 module _ (l : List ℕ) (at t r : ℕ) (l′ : List ℕ) where
   pub withdrawn-laid : length (entryBytes (Withdrawn t)) ≤ length l → at ≤ length l - length (entryBytes (Withdrawn t))
@@ -83,42 +74,14 @@ module _ (h : Head) (l : List ℕ) where
 
 -- ---------- the cells
 
--- how many bytes the first n cells take
-cells-length : (cells : List Cell) (n : ℕ) → n ≤ limit.width → length cells ≡ limit.width → length (pieces cellBytes (take n cells)) ≡ n * 3
-cells-length cells n h l = pieces-even cellBytes 3 (λ c. refl) (take n cells) ∙ rw (first-long cells n (omega arith))
-
-module _ (cells : List Cell) (n : ℕ) (out₀ : List ℕ) (at : ℕ) where
-  -- the cells from i on are left to lay down at p
-  pub record Laying (out : List ℕ) (i p : ℕ) : Type 0 where
-    pub below : i ≤ n
-    pub few : n ≤ limit.width
-    pub long : length cells ≡ limit.width
-    pub room : at + 3 * n ≤ length out₀
-    pub same : length out ≡ length out₀
-    pub place : p ≡ at + 3 * i
-    pub rest : puts out p (pieces cellBytes (drop i (take n cells))) ≡ puts out₀ at (pieces cellBytes (take n cells))
-
-  pub laying-begins : n ≤ limit.width → length cells ≡ limit.width → at + 3 * n ≤ length out₀ → Laying out₀ 0 at
-  laying-begins f l r = record { below = omega arith; few = f; long = l; room = r; same = refl; place = omega arith; rest = refl }
-
-  module _ (out : List ℕ) (i p : ℕ) (g : Laying out i p) where
-    pub laying-more : i < n → (c : Cell) → c ≡ getD cells i zeroCell
-        → Laying (set (set (set out p (c .count)) (p + 1) (c .pending)) (p + 1 + 1) (c .guards)) (i + 1) (p + 1 + 1 + 1)
-    laying-more h c e =
-        record {
-          below = omega arith;
-          few = g .few;
-          long = g .long;
-          room = g .room;
-          same = simp length-set (g .same);
-          place = omega arith;
-          rest = rw e (first-more cellBytes cells zeroCell n i p out _ (g .rest) h (omega arith) (p + 1 + 1 + 1) (omega arith));
-        }
-
-    pub laying-ends : n ≤ i → Laid out₀ at (pieces cellBytes (take n cells)) p out
-    laying-ends h =
-        let l = cells-length cells n (g .few) (g .long) in
-        whole-laid out₀ at (pieces cellBytes (take n cells)) p out (omega arith) (omega arith) (first-end cellBytes cells zeroCell n i p out _ (g .rest) h)
+-- a turn of the loop over the cells: three stores are a cell laid down
+pub cell-more : (cells : List Cell) (n : ℕ) (out₀ : List ℕ) (at : ℕ) (out : List ℕ) (i p : ℕ) → Laying cellBytes zeroCell cells limit.width n out₀ at out i p → i < n
+    → (c : Cell) → c ≡ getD cells i zeroCell
+    → Laying cellBytes zeroCell cells limit.width n out₀ at (set (set (set out p (c .count)) (p + 1) (c .pending)) (p + 1 + 1) (c .guards)) (i + 1) (p + 1 + 1 + 1)
+cell-more cells n out₀ at out i p g h c e =
+    let fits : p + 3 ≤ length out = omega (arith, g .room, g .place, g .same) in
+    laying-more cellBytes zeroCell cells limit.width n out₀ at out i p g h (p + 1 + 1 + 1) _
+    (rw e (whole-laid out p (cellBytes (getD cells i zeroCell)) (p + 1 + 1 + 1) _ fits (omega arith) refl))
 
 -- ---------- the image
 
@@ -131,7 +94,7 @@ cells-room h l n fits a k head =
 module _ (s : State) (l : List ℕ) (n : ℕ) (used : n ≡ inUse (s .head .width)) (few : n ≤ limit.width) (long : length (s .cells) ≡ limit.width) where
   image-length : length (imageBytes s) ≡ length (headBytes (s .head)) + 3 * n
   image-length =
-      let c = cells-length (s .cells) n few long in
+      let c = pieces-long cellBytes zeroCell (s .cells) n (omega arith) (λ v. refl) in
       rw (← used) (length-append (headBytes (s .head)) (pieces cellBytes (take n (s .cells))) ∙ omega arith)
 
   pub image-short : length l < length (headBytes (s .head)) + 3 * n → Laid l 0 (imageBytes s) 0 l

@@ -8,3 +8,4 @@ pub mod Masks
 pub mod Tables
 pub mod Settled
 pub mod Testing
+pub mod Laying

@@ -1,7 +1,7 @@
 -- Stores at a moving place, over what is stored, and what a writer that stores all or nothing has done. Assumes nothing.
 use mathlib.Core.Path.{_≡_, refl, sym, ap, _∙_}
 use mathlib.Core.List.{List, [], _∷_, _++_, append-assoc}
-use Prim.Native.Nat.{ℕ, _+_, _^_, _≤_, _<_}
+use Prim.Native.Nat.{ℕ, _+_, _-_, _^_, _≤_, _<_}
 use native.Mathlib.Nat.{add-zero, zero-add, add-assoc}
 use native.Mathlib.Numerals.{add-one}
 use native.Mathlib.Omega.{arith}
@@ -116,3 +116,11 @@ pub stores-then : (l : List ℕ) (i : ℕ) (xs ys : List ℕ) (j r : ℕ) (l′ 
 stores-then l i xs ys j r l′ h e k =
     let fits : i + length xs ≤ length l = omega (arith, length-append xs ys) in
     laid-then l i xs ys j (puts l i xs) r l′ h (whole-laid l i xs j (puts l i xs) fits e refl) k
+
+-- what a writer leaves where its bytes do not fit: the buffer is too short, or the place too far back
+module _ (l : List ℕ) (at : ℕ) (bs : List ℕ) where
+  pub too-short : length l < length bs → Laid l at bs at l
+  too-short h = none-laid l at bs (omega arith)
+
+  pub too-far : length bs ≤ length l → length l - length bs < at → Laid l at bs at l
+  too-far h p = none-laid l at bs (omega arith)

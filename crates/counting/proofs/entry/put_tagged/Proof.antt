@@ -1,19 +1,20 @@
 -- `counting::entry::put_tagged` meets its contract: where six bytes fit, two stores and a number lie one behind the other. Assumes nothing.
 use native.Mathlib.Omega.{arith}
 use lib.ListN.{length-set}
-use Rattle.counting.proofs.Writes.{tagged-short, tagged-past, tagged-laid, tagged-length}
+use Rattle.rows.proofs.Stores.{too-short, too-far}
+use Rattle.counting.proofs.Writes.{tagged-laid, tagged-length}
 use borrow.Author.Needs.{needs}
 use Rattle.counting.proofs.entry.put_tagged.Statement.{statement}
 use Rattle.counting.proofs.entry.put_tagged.Tie as tie
 
 returns : tie.Need-returns
-returns c = search tagged-short
+returns c = search too-short
 
 sub-if2 : tie.Need-sub-if2
 sub-if2 c = search needs
 
 returns-2 : tie.Need-returns-2
-returns-2 c = search tagged-past
+returns-2 c = search too-far
 
 slice-write-log : tie.Need-slice-write-log
 slice-write-log c = search needs

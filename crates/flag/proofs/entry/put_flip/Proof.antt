@@ -2,18 +2,19 @@
 use native.Mathlib.Omega.{arith}
 use borrow.Author.Needs.{needs}
 use lib.ListN.{length-set}
-use Rattle.flag.proofs.Writes.{flip-short, flip-past, flip-laid}
+use Rattle.rows.proofs.Stores.{too-short, too-far}
+use Rattle.flag.proofs.Writes.{flip-laid}
 use Rattle.flag.proofs.entry.put_flip.Statement.{statement}
 use Rattle.flag.proofs.entry.put_flip.Tie as tie
 
 returns : tie.Need-returns
-returns c = search flip-short
+returns c = search too-short
 
 sub-if2 : tie.Need-sub-if2
 sub-if2 c = search needs
 
 returns-2 : tie.Need-returns-2
-returns-2 c = search flip-past
+returns-2 c = search too-far
 
 slice-write-log : tie.Need-slice-write-log
 slice-write-log c = search needs

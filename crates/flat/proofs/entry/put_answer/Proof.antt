@@ -2,7 +2,8 @@
 use native.Mathlib.Omega.{arith}
 use borrow.Author.Needs.{needs}
 use lib.ListN.{length-set}
-use Rattle.flat.proofs.Writes.{too-short, too-far, answer-laid, answer-length}
+use Rattle.rows.proofs.Stores.{too-short, too-far}
+use Rattle.flat.proofs.Writes.{answer-laid, answer-length}
 use Rattle.flat.proofs.entry.put_answer.Statement.{statement}
 use Rattle.flat.proofs.entry.put_answer.Tie as tie
 

@@ -6,7 +6,7 @@ use Rattle.rows.proofs.Rows.{row-long}
 use Rattle.schedule.specs.Limits as limit
 use Rattle.flat.specs.Flat.{zeroClient}
 use Rattle.flat.specs.Image.{clientBytes}
-use Rattle.flat.proofs.Laying.{Laying, laying-begins, laying-more, laying-ends}
+use Rattle.rows.proofs.Laying.{Laying, laying-begins, laying-more, laying-ends}
 use Rattle.flat.proofs.image.put_clients.Statement.{statement}
 use Rattle.flat.proofs.image.put_clients.Tie as tie
 

@@ -2,7 +2,8 @@
 use native.Mathlib.Omega.{arith}
 use borrow.Author.Needs.{needs}
 use lib.ListN.{length-set}
-use Rattle.lock.proofs.Writes.{too-short, too-far, granted-laid, three-length}
+use Rattle.rows.proofs.Stores.{too-short, too-far}
+use Rattle.lock.proofs.Writes.{granted-laid, three-length}
 use Rattle.lock.proofs.entry.put_granted.Statement.{statement}
 use Rattle.lock.proofs.entry.put_granted.Tie as tie
 

@@ -2,7 +2,8 @@
 use native.Mathlib.Omega.{arith}
 use borrow.Author.Needs.{needs}
 use lib.ListN.{length-set}
-use Rattle.lock.proofs.Writes.{too-short, too-far, withdrawn-laid, two-length}
+use Rattle.rows.proofs.Stores.{too-short, too-far}
+use Rattle.lock.proofs.Writes.{withdrawn-laid, two-length}
 use Rattle.lock.proofs.entry.put_withdrawn.Statement.{statement}
 use Rattle.lock.proofs.entry.put_withdrawn.Tie as tie
 

@@ -1,21 +1,26 @@
 -- `lock::state::put_cells` meets its contract: the loop's invariant says that the cells left lay down the rest; the measure is how many are left. Assumes nothing.
+use mathlib.Core.Path.{refl}
 use Prim.Native.Nat.{_-_}
 use native.Mathlib.Omega.{arith}
 use borrow.Author.Needs.{needs}
 use lib.ListN.{length-set}
 use Rattle.rows.proofs.Rows.{row-long}
-use Rattle.lock.proofs.Writes.{Laying, laying-begins, laying-more, laying-ends}
+use Rattle.rows.proofs.Laying.{Laying, laying-begins, laying-ends}
+use Rattle.schedule.specs.Limits as limit
+use Rattle.lock.specs.Lock.{zeroCell}
+use Rattle.lock.specs.Image.{cellBytes}
+use Rattle.lock.proofs.Writes.{cell-more}
 use Rattle.lock.proofs.state.put_cells.Statement.{statement}
 use Rattle.lock.proofs.state.put_cells.Tie as tie
 
 abbrev Inv-loop : tie.InvT-loop
-Inv-loop out₀ at n s i₀ p₀ out i p = Laying (s .cells) n out₀ at out i p
+Inv-loop out₀ at n s i₀ p₀ out i p = Laying cellBytes zeroCell (s .cells) limit.width n out₀ at out i p
 
 abbrev μ-loop : tie.MeasureT-loop
 μ-loop out₀ at n s i₀ p₀ out i p = n - i
 
 loop-holds : tie.Need-loop-holds Inv-loop μ-loop
-loop-holds c = laying-begins _ _ _ _ (search needs) (search (needs, row-long)) (search needs)
+loop-holds c = laying-begins cellBytes zeroCell _ _ _ _ _ (search needs) (search (needs, row-long)) (λ v. refl) (search needs)
 
 mul-c : tie.Need-mul-c Inv-loop μ-loop
 mul-c c = search needs
@@ -48,7 +53,7 @@ loop-less : tie.Need-loop-less Inv-loop μ-loop
 loop-less c = search needs
 
 loop-again : tie.Need-loop-again Inv-loop μ-loop
-loop-again c = search laying-more
+loop-again c = search cell-more
 
 same-length : tie.Need-same-length Inv-loop μ-loop
 same-length c = search needs

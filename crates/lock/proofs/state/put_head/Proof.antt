@@ -1,6 +1,7 @@
 -- `lock::state::put_head` meets its contract: nothing where the bytes do not fit, else the front and the rest behind it. Assumes nothing.
 use borrow.Author.Needs.{needs}
-use Rattle.lock.proofs.Writes.{too-short, writer-room, head-laid}
+use Rattle.rows.proofs.Stores.{too-short}
+use Rattle.lock.proofs.Writes.{writer-room, head-laid}
 use Rattle.lock.proofs.state.put_head.Statement.{statement}
 use Rattle.lock.proofs.state.put_head.Tie as tie
 

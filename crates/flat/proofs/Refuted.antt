@@ -1,0 +1,86 @@
+-- Made-up histories, the newest step first, that the demand refuses: it is not met by just any history. Assumes nothing.
+use Prim.Native.Nat.{ℕ}
+use mathlib.Core.Path.{ap}
+use mathlib.Core.List.{[], _∷_}
+use native.Mathlib.Omega.{arith}
+use Rattle.machine.specs.History.{Event}
+use Rattle.schedule.specs.declared.steps.FlatStep.{FlatStep}
+use Rattle.schedule.specs.declared.steps.FlatStep.the-variants.{ClientSend, ClientRecv, CombinerRecv, CombinerSkip, CombinerGoToResponding, CombinerSend, CombinerSendSkip, CombinerGoToCollecting}
+use Rattle.flat.specs.Demand.{Hist, Message, Demand}
+use Rattle.flat.specs.declared.entry.Entry.{Entry}
+use Rattle.flat.specs.declared.entry.Entry.the-variants.{Answer}
+
+-- a step that logs nothing
+abbrev does : FlatStep → Event FlatStep Entry
+does x = record { did = x; wrote = [] }
+
+abbrev asks : ℕ → ℕ → ℕ → Event FlatStep Entry
+asks j rid req = does (ClientSend j rid req)
+
+abbrev sends : ℕ → ℕ → Event FlatStep Entry
+sends rid resp = does (CombinerSend rid resp)
+
+abbrev is-told : ℕ → ℕ → ℕ → Event FlatStep Entry
+is-told j rid resp = record { did = ClientRecv j; wrote = Answer j rid resp ∷ [] }
+
+abbrev gathers : Event FlatStep Entry
+gathers = does CombinerRecv
+
+abbrev responds : Event FlatStep Entry
+responds = does CombinerGoToResponding
+
+abbrev collects : Event FlatStep Entry
+collects = does CombinerGoToCollecting
+
+-- two clients ask under one id, and 10 is sent for client 0, 20 for client 1
+abbrev two-served : Hist
+two-served = sends 7 20 ∷ sends 7 10 ∷ responds ∷ gathers ∷ gathers ∷ asks 1 7 2 ∷ asks 0 7 1 ∷ []
+
+-- one client is served
+abbrev one-served : Hist
+one-served = sends 7 10 ∷ responds ∷ gathers ∷ asks 0 7 1 ∷ []
+
+-- the answers of two clients are swapped: matched by id, either would do
+pub swapped : Demand (is-told 1 7 10 ∷ is-told 0 7 20 ∷ two-served) → ⊥
+swapped d = omega (arith, ap (λ (m : Message). m .load) (d .own-payload 0 0 (omega arith)))
+
+-- one of them alone is wrong already
+pub another-clients : Demand (is-told 1 7 10 ∷ two-served) → ⊥
+another-clients d = omega (arith, ap (λ (m : Message). m .load) (d .own-payload 1 0 (omega arith)))
+
+-- two combiner_sends are made for one request
+pub sent-twice : Demand (sends 7 11 ∷ responds ∷ does CombinerSkip ∷ collects ∷ one-served) → ⊥
+sent-twice d = omega (arith, d .after-request 0)
+
+-- an answer has the payload of an earlier turn, its id being the same
+pub another-turns : Demand (is-told 0 7 10 ∷ sends 7 20 ∷ responds ∷ gathers ∷ asks 0 7 2 ∷ collects ∷ is-told 0 7 10 ∷ one-served) → ⊥
+another-turns d = omega (arith, ap (λ (m : Message). m .load) (d .own-payload 0 1 (omega arith)))
+
+-- an answer, and a combiner_send, has the id of another request
+pub another-id : Demand (is-told 0 8 10 ∷ sends 8 20 ∷ sends 7 10 ∷ responds ∷ gathers ∷ gathers ∷ asks 1 8 2 ∷ asks 0 7 1 ∷ []) → ⊥
+another-id d = omega (arith, d .own-id 0 0 (omega arith))
+
+pub sent-another-id : Demand (sends 8 10 ∷ responds ∷ gathers ∷ asks 0 7 1 ∷ []) → ⊥
+sent-another-id d = omega (arith, d .sent-for 0 0 (omega arith))
+
+-- a combiner_send goes to the client whose turn it is: after a skip that is the next one, who asked nothing
+pub another-turn : Demand (sends 7 10 ∷ does CombinerSendSkip ∷ responds ∷ does CombinerSkip ∷ gathers ∷ asks 0 7 1 ∷ []) → ⊥
+another-turn d = omega (arith, d .after-request 1)
+
+-- an answer comes with no request, and one comes with no combiner_send
+pub unasked : Demand (is-told 0 0 0 ∷ []) → ⊥
+unasked d = omega (arith, d .after-send 0)
+
+pub unasked-sent : Demand (is-told 0 7 10 ∷ sends 7 10 ∷ responds ∷ []) → ⊥
+unasked-sent d = omega (arith, d .after-request 0)
+
+pub unserved : Demand (is-told 0 7 10 ∷ responds ∷ gathers ∷ asks 0 7 1 ∷ []) → ⊥
+unserved d = omega (arith, d .after-send 0)
+
+-- the answer is logged twice
+pub told-twice : Demand (is-told 0 7 10 ∷ is-told 0 7 10 ∷ one-served) → ⊥
+told-twice d = omega (arith, d .after-send 0)
+
+-- a second request comes before the answer
+pub asked-twice : Demand (asks 0 8 2 ∷ asks 0 7 1 ∷ []) → ⊥
+asked-twice d = omega (arith, d .one-at-a-time 0)
