@@ -8,3 +8,4 @@ pub mod Singles
 pub mod Multisets
 pub mod Toy
 pub mod Moves
+pub mod Rests

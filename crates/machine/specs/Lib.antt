@@ -6,3 +6,4 @@ pub mod Loop
 pub mod Multiset
 pub mod Single
 pub mod Move
+pub mod Rest

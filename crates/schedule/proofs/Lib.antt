@@ -18,4 +18,5 @@ pub mod FrontBytes
 pub mod Canonical
 -- what the machines' crates take from here
 pub mod LoopSteps
+pub mod Rests
 pub mod Settled

@@ -9,6 +9,7 @@ use Rattle.schedule.specs.Reading.{measuredAt}
 use Rattle.schedule.specs.Front.{faultCode, faultPlace, openedOf}
 use Rattle.schedule.specs.Counting.{countedOf}
 use Rattle.schedule.specs.Finding.{foundAt}
+use Rattle.schedule.specs.Answers.{refusedAs}
 use Rattle.schedule.specs.declared.steps.FlatStep.{FlatStep}
 use Rattle.schedule.specs.declared.steps.LockStep.{LockStep}
 use Rattle.schedule.specs.declared.steps.CountingStep.{CountingStep}
@@ -18,6 +19,7 @@ use Rattle.schedule.specs.declared.front.Opened.{Opened}
 use Rattle.schedule.specs.declared.lengths.Measured.{Measured}
 use Rattle.schedule.specs.declared.count.Counted.{Counted}
 use Rattle.schedule.specs.declared.read.Found.{Found}
+use Rattle.schedule.specs.declared.answer.Answer.{Answer}
 
 -- every promise here names its answer
 settled : {A : Type 0} {r q x : A} → r ≡ x → q ≡ x → r ≡ q
@@ -55,3 +57,6 @@ flag-step-settled f at = settled
 
 pub read-settled : (kind : ℕ) (f : List ℕ) (at : ℕ) {r q : Found} → r ≡ foundAt kind f at → q ≡ foundAt kind f at → r ≡ q
 read-settled kind f at = settled
+
+pub refused-settled : (code place : ℕ) {r q : Answer} → r ≡ refusedAs code place → q ≡ refusedAs code place → r ≡ q
+refused-settled code place = settled

@@ -10,3 +10,4 @@ pub mod Finding
 pub mod Schedule
 pub mod Canonical
 pub mod Given
+pub mod Answers

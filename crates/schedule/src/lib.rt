@@ -7,3 +7,4 @@ pub mod lengths; // the one table of step lengths, and how far the step at a pla
 pub mod front; // a file up to its first step: codes 1 to 5
 pub mod count; // how many steps follow: codes 6 and 7
 pub mod read; // the step at a place
+pub mod answer; // the answer to a whole file

@@ -3,10 +3,6 @@ use Prim.Native.Nat.{_≤_, _-_}
 use borrow.Author.Needs.{needs}
 use Rattle.read_cases.proofs.main.Statement.{statement}
 use Rattle.read_cases.proofs.main.Tie as tie
-use Rattle.read_cases.proofs.main.Reads as reads
-use Rattle.read_cases.proofs.main.Lts as lts
-use Rattle.read_cases.proofs.one.Reads as one-reads
-use Rattle.os.proofs.arg_count.Reads as arg-count-reads
 
 abbrev Inv-loop : tie.InvT-loop
 Inv-loop n i₀ i = 1 ≤ i
@@ -14,31 +10,24 @@ Inv-loop n i₀ i = 1 ≤ i
 abbrev μ-loop : tie.MeasureT-loop
 μ-loop n i₀ i = n - i
 
--- src/main.rt:8:9
 arg-count-requires : tie.Need-arg-count-requires Inv-loop μ-loop
 arg-count-requires c κs = search needs
 
--- src/main.rt:10:5
 loop-holds : tie.Need-loop-holds Inv-loop μ-loop
 loop-holds c = search needs
 
--- src/main.rt:11:9
 one-requires : tie.Need-one-requires Inv-loop μ-loop
 one-requires c κs = search needs
 
--- src/main.rt:12:9
 add-i : tie.Need-add-i Inv-loop μ-loop
 add-i c = search needs
 
--- src/main.rt:10:5
 loop-less : tie.Need-loop-less Inv-loop μ-loop
 loop-less c = search needs
 
--- src/main.rt:10:5
 loop-again : tie.Need-loop-again Inv-loop μ-loop
 loop-again c = search needs
 
--- src/main.rt:7:1
 returns : tie.Need-returns Inv-loop μ-loop
 returns c = search needs
 

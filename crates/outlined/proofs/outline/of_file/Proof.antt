@@ -5,53 +5,38 @@ use borrow.Author.Needs.{needs}
 use Rattle.outlined.proofs.Outlines.{faulty-front, counted-steps}
 use Rattle.outlined.proofs.outline.of_file.Statement.{statement}
 use Rattle.outlined.proofs.outline.of_file.Tie as tie
-use Rattle.outlined.proofs.outline.of_file.Reads as reads
-use Rattle.outlined.proofs.outline.of_file.Lts as lts
-use Rattle.outlined.proofs.outline.kind_of.Reads as kind-of-reads
-use Rattle.schedule.proofs.count.count.Reads as count-reads
-use Rattle.schedule.proofs.front.front.Reads as front-reads
 
--- src/outline.rt:40:11
 front-requires : tie.Need-front-requires
 front-requires c κs = search needs
 
--- src/outline.rt:41:24
 enum-known-fault : tie.Need-enum-known-fault
 enum-known-fault c = search needs
 
--- src/outline.rt:42:24
 enum-known-params : tie.Need-enum-known-params
 enum-known-params c = search needs
 
--- src/outline.rt:43:17
 kind-of-requires : tie.Need-kind-of-requires
 kind-of-requires c κs = search needs
 
--- src/outline.rt:44:19
 count-requires : tie.Need-count-requires
 count-requires c κs = search needs
 
--- src/outline.rt:45:33
 enum-known-fault-2 : tie.Need-enum-known-fault-2
 enum-known-fault-2 c = search needs
 
--- src/outline.rt:46:32
 enum-known-steps : tie.Need-enum-known-steps
 enum-known-steps c = search needs
 
--- src/outline.rt:37:1
 returns : tie.Need-returns
 returns c = let a = c .before .before .before in
     faulty-front (now (a .before .before .args .file)) _ (sym (a .front .ensures) ∙ c .before .fault .given .1)
 
--- src/outline.rt:37:1
 returns-2 : tie.Need-returns-2
 returns-2 c = let k = c .before .before .before in let p = k .before .before .before in let a = p .before .before in
     let e = sym (a .front .ensures) ∙ p .params .given .1 in
     let whole = counted-steps (now (a .before .before .args .file)) _ _ _ _ e (k .before .kind-of .ensures) (k .count .ensures) in
     rw (c .before .fault2 .given .1) at whole
 
--- src/outline.rt:37:1
 returns-3 : tie.Need-returns-3
 returns-3 c = let k = c .before .before .before in let p = k .before .before .before in let a = p .before .before in
     let e = sym (a .front .ensures) ∙ p .params .given .1 in

@@ -5,19 +5,13 @@ use borrow.Author.Needs.{needs}
 use Rattle.outlined.proofs.Outlines.{too-long, not-too-long}
 use Rattle.outlined.proofs.outline.of_input.Statement.{statement}
 use Rattle.outlined.proofs.outline.of_input.Tie as tie
-use Rattle.outlined.proofs.outline.of_input.Reads as reads
-use Rattle.outlined.proofs.outline.of_input.Lts as lts
-use Rattle.outlined.proofs.outline.of_file.Reads as of-file-reads
 
--- src/outline.rt:57:9
 returns : tie.Need-returns
 returns c = too-long (now (c .before .before .args .input)) (omega arith)
 
--- src/outline.rt:59:5
 of-file-requires : tie.Need-of-file-requires
 of-file-requires c κs = search needs
 
--- src/outline.rt:53:1
 returns-2 : tie.Need-returns-2
 returns-2 c = rw (c .of-file .ensures) (not-too-long (now (c .before .before .before .args .input)) (omega arith))
 
