@@ -14,12 +14,17 @@ use schedule::kinds;
 use schedule::limits;
 use schedule::read;
 use schedule::steps::CountingStep;
-ghost use mathlib.Core.Path.{_≡_};
 ghost use lib.ListN.{length};
-ghost use Rattle.schedule.specs.Answers.{Leaves};
-ghost use Rattle.counting_run.specs.Run.{Runnable, Ended, Counts, restOfFile};
+ghost use Rattle.schedule.specs.Answers.{Leaves, restFrom};
+ghost use Rattle.schedule.specs.Running.{Counts, Runnable, Ended};
+ghost use Rattle.schedule.specs.Spelling as spelled;
+ghost use Rattle.schedule.specs.Widths as kind;
+ghost use Rattle.counting.specs.Counting.{counting};
+ghost use Rattle.counting.specs.Image.{entryBytes, imageBytes};
+ghost use Rattle.counting_run.specs.Run.{Good, leftBy, restOfFile};
 
-// What a run leaves: the state after the accepted steps, the index of the step that stopped it or the number of steps, the log's length.
+// What a run leaves: the state after the accepted steps, the index of the step that stopped it or the number of steps, and how far the log is
+// written.
 pub struct Ran {
     pub state: State,
     pub place: usize,
@@ -27,14 +32,15 @@ pub struct Ran {
     pub code: u8,
 }
 
-fn run(file: &[u8], from: usize, n: usize, start: State, log: &mut [u8]) -> Ran
-    requires { ⌜ Runnable (now file) from n start (length (now log)) ⌝ }
-    ensures { λ r. ⌜ Ended (now (file .entry)) from n start (now (log .entry)) r (now (log .exit)) ⌝ }
+// The next n steps of a file on a state, their entries into the log from `used` on.
+fn run(file: &[u8], from: usize, n: usize, start: State, log: &mut [u8], used: usize) -> Ran
+    requires { ⌜ Runnable counting spelled.counting Good (now file) from n start used (length (now log)) ⌝ }
+    ensures { λ r. ⌜ Ended counting spelled.counting entryBytes (now (file .entry)) from n start (now (log .entry)) used (leftBy r (now (log .exit))) ⌝ }
 {
     let mut s = start;
     let mut at = from;
     let mut k: usize = 0;
-    let mut w: usize = 0;
+    let mut w = used;
     let ran = loop {
         if k == n {
             break Ran {
@@ -121,16 +127,25 @@ fn run(file: &[u8], from: usize, n: usize, start: State, log: &mut [u8]) -> Ran
 pub fn rest(file: &[u8], from: usize, log: &mut [u8], image: &mut [u8]) -> Answer
     ensures { λ r. ⌜ Leaves (restOfFile (now (file .entry)) from (now (log .entry)) (now (image .entry))) r (now (log .exit)) (now (image .exit)) ⌝ }
 {
+    let fresh = state::fresh();
     match count::count(kinds::COUNTING, file, from) {
         Counted::Faulty(f) => answer::refused(front::code(f), front::place(f)),
-        Counted::Steps(n) => replayed(file, from, n, log, image),
+        Counted::Steps(n) => replayed(file, from, n, fresh, log, image),
     }
 }
 
 // n steps that are known to stand there: the room tested, then run.
-fn replayed(file: &[u8], from: usize, n: usize, log: &mut [u8], image: &mut [u8]) -> Answer
-    requires { ⌜ Counts (now file) from n ⌝ }
-    ensures { λ r. ⌜ Leaves (restOfFile (now (file .entry)) from (now (log .entry)) (now (image .entry))) r (now (log .exit)) (now (image .exit)) ⌝ }
+fn replayed(
+    file: &[u8],
+    from: usize,
+    n: usize,
+    start: State,
+    log: &mut [u8],
+    image: &mut [u8],
+) -> Answer
+    requires { ⌜ Counts kind.counting (now file) from n ⌝ }
+    requires { ⌜ Good start ⌝ }
+    ensures { λ r. ⌜ Leaves (restFrom counting spelled.counting entryBytes imageBytes start (now (file .entry)) from (now (log .entry)) (now (image .entry))) r (now (log .exit)) (now (image .exit)) ⌝ }
 {
     if log.len() < n * limits::ENTRY {
         return answer::refused(codes::ROOM, 0);
@@ -138,7 +153,7 @@ fn replayed(file: &[u8], from: usize, n: usize, log: &mut [u8], image: &mut [u8]
     if image.len() < limits::IMAGE {
         return answer::refused(codes::ROOM, 0);
     }
-    let ran = run(file, from, n, state::fresh(), log);
+    let ran = run(file, from, n, start, log, 0);
     let s = ran.state;
     let imaged = state::image(s, image);
     Answer {

@@ -19,4 +19,5 @@ pub mod Canonical
 -- what the machines' crates take from here
 pub mod LoopSteps
 pub mod Rests
+pub mod Running
 pub mod Settled

@@ -11,3 +11,4 @@ pub mod Schedule
 pub mod Canonical
 pub mod Given
 pub mod Answers
+pub mod Running

@@ -1,6 +1,7 @@
 -- `counting_run::replayed` meets its contract: the room is tested, and the steps run are the file's. Assumes nothing.
 use borrow.Author.Needs.{needs}
-use Rattle.counting_run.proofs.Whole.{product, runnable, log-short, image-short, ran-leaves}
+use Rattle.schedule.proofs.Running.{product}
+use Rattle.counting_run.proofs.Whole.{runnable, log-short, image-short, ran-leaves}
 use Rattle.counting_run.proofs.replayed.Statement.{statement}
 use Rattle.counting_run.proofs.replayed.Tie as tie
 
@@ -18,9 +19,6 @@ refused-requires-2 c κs = search needs
 
 returns-2 : tie.Need-returns-2
 returns-2 c = search image-short
-
-fresh-requires : tie.Need-fresh-requires
-fresh-requires c κs = search needs
 
 run-requires : tie.Need-run-requires
 run-requires c κs = search runnable
@@ -46,7 +44,6 @@ replayed-spec =
     returns
     refused-requires-2
     returns-2
-    fresh-requires
     run-requires
     image-requires
     same-length

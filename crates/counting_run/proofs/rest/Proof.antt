@@ -1,8 +1,12 @@
 -- `counting_run::rest` meets its contract: a fault is answered as it is counted, and else the steps are replayed. Assumes nothing.
 use borrow.Author.Needs.{needs}
-use Rattle.counting_run.proofs.Whole.{counts, faulty-leaves}
+use Rattle.schedule.proofs.Running.{counts}
+use Rattle.counting_run.proofs.Whole.{fresh-good, faulty-leaves, rest-leaves}
 use Rattle.counting_run.proofs.rest.Statement.{statement}
 use Rattle.counting_run.proofs.rest.Tie as tie
+
+fresh-requires : tie.Need-fresh-requires
+fresh-requires c κs = search needs
 
 count-requires : tie.Need-count-requires
 count-requires c κs = search needs
@@ -23,7 +27,7 @@ enum-known-n : tie.Need-enum-known-n
 enum-known-n c = search needs
 
 replayed-requires : tie.Need-replayed-requires
-replayed-requires c κs = search counts
+replayed-requires c κs = search (counts, fresh-good)
 
 returns : tie.Need-returns
 returns c = search faulty-leaves
@@ -35,12 +39,13 @@ same-length-2 : tie.Need-same-length-2
 same-length-2 c = search needs
 
 returns-2 : tie.Need-returns-2
-returns-2 c = search needs
+returns-2 c = search rest-leaves
 
 pub rest-spec : {M : Type 1} → statement M
 rest-spec =
     tie.close
     (tie.spec
+    fresh-requires
     count-requires
     enum-known-f
     code-requires

@@ -6,10 +6,10 @@ use Rattle.counting_run.proofs.run.Statement.{statement}
 use Rattle.counting_run.proofs.run.Tie as tie
 
 abbrev Inv-loop : tie.InvT-loop
-Inv-loop file from n log₀ s₀ at₀ k₀ w₀ log s at k w = Runs file from n s₀ log₀ log s at k w
+Inv-loop file from n log₀ used s₀ at₀ k₀ w₀ log s at k w = Runs file from n s₀ log₀ used log s at k w
 
 abbrev μ-loop : tie.MeasureT-loop
-μ-loop file from n log₀ s₀ at₀ k₀ w₀ log s at k w = n - k
+μ-loop file from n log₀ used s₀ at₀ k₀ w₀ log s at k w = n - k
 
 loop-holds : tie.Need-loop-holds Inv-loop μ-loop
 loop-holds c = search starts
@@ -49,7 +49,7 @@ add-at-2 c =
     let move = c .before .before .before .before .before .before .before in
     let told = move .before in
     let read = told .before .before in
-    two-on _ _ _ _ _ _ _ _ _ _ (read .before .before .loop .inv) (read .before .if1 .left) _ (read .counting-step .ensures) (told .enum-told .given .1)
+    two-on _ _ _ _ _ _ _ _ _ _ _ (read .before .before .loop .inv) (read .before .if1 .left) _ (read .counting-step .ensures) (told .enum-told .given .1)
 
 add-k-2 : tie.Need-add-k-2 Inv-loop μ-loop
 add-k-2 c = search needs
@@ -64,7 +64,7 @@ loop-again-2 c =
     let move = test .before .before in
     let told = move .before in
     let read = told .before .before in
-    withdraw-turn _ _ _ _ _ _ _ _ _ _ (read .before .before .loop .inv) (read .before .if1 .left) _ (read .counting-step .ensures) (told .enum-told .given .1)
+    withdraw-turn _ _ _ _ _ _ _ _ _ _ _ (read .before .before .loop .inv) (read .before .if1 .left) _ (read .counting-step .ensures) (told .enum-told .given .1)
     _ (move .readable-to-writeable .ensures) (test .if3 .left) _ _ (put .put-entry .ensures)
 
 enum-told-2 : tie.Need-enum-told-2 Inv-loop μ-loop
@@ -81,7 +81,7 @@ add-at-3 c =
     let move = c .before .before .before .before .before .before .before in
     let told = move .before in
     let read = told .before .before in
-    two-more _ _ _ _ _ _ _ _ _ _ (read .before .before .loop .inv) (read .before .if1 .left) _ (read .counting-step .ensures) (told .enum-told2 .given .1)
+    two-more _ _ _ _ _ _ _ _ _ _ _ (read .before .before .loop .inv) (read .before .if1 .left) _ (read .counting-step .ensures) (told .enum-told2 .given .1)
 
 add-k-3 : tie.Need-add-k-3 Inv-loop μ-loop
 add-k-3 c = search needs
@@ -96,7 +96,7 @@ loop-again-3 c =
     let move = test .before .before in
     let told = move .before in
     let read = told .before .before in
-    new-turn _ _ _ _ _ _ _ _ _ _ (read .before .before .loop .inv) (read .before .if1 .left) _ (read .counting-step .ensures) (told .enum-told2 .given .1)
+    new-turn _ _ _ _ _ _ _ _ _ _ _ (read .before .before .loop .inv) (read .before .if1 .left) _ (read .counting-step .ensures) (told .enum-told2 .given .1)
     _ (move .new-ref .ensures) (test .if4 .left) _ _ (put .put-entry2 .ensures)
 
 enum-known-step-2 : tie.Need-enum-known-step-2 Inv-loop μ-loop
