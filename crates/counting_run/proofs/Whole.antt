@@ -26,6 +26,10 @@ use Rattle.counting_run.specs.Run.{Good, leftBy, restOfFile}
 use Rattle.counting_run.specs.declared.Ran.{Ran}
 use Rattle.counting_run.proofs.Turns.{short}
 
+-- an image is seven bytes
+pub small : (q : State) → length (imageBytes q) ≤ limit.image
+small q = omega arith
+
 pub fresh-good : (s : State) → s ≡ freshState → Good s
 fresh-good s e = rw e refl
 
@@ -56,4 +60,4 @@ module _ (s : State) (f : List ℕ) (from : ℕ) (log image : List ℕ) where
           → Leaves (restFrom counting spelled.counting entryBytes imageBytes s f from log image)
           (record { place = r .place; logged = r .logged; imaged = k; code = r .code }) log′ image′
       ran-leaves i r log′ d =
-          running.ran-leaves counting spelled.counting counting-lawful entryBytes imageBytes s f from log image n c h i short (λ q. omega arith) (leftBy r log′) d
+          running.ran-leaves counting spelled.counting counting-lawful entryBytes imageBytes s f from log image n c h i short small (leftBy r log′) d

@@ -88,10 +88,10 @@ module _ (s : State) (k a : ℕ) (e : a ≡ first (insideTests (s .threads) k)) 
 -- ---------- move and read
 
 -- a move's flips are few
-flips-short : (f : Flips) (o k : ℕ) → length (pieces entryBytes (flipped f o k)) ≤ limit.entry
-flips-short Nobody o k = omega arith
-flips-short Mover o k = omega arith
-flips-short Both o k = omega arith
+pub few-flips : (f : Flips) (o k : ℕ) → length (pieces entryBytes (flipped f o k)) ≤ limit.entry
+few-flips Nobody o k = omega arith
+few-flips Mover o k = omega arith
+few-flips Both o k = omega arith
 
 module _ (s : State) (k : ℕ) (l : List ℕ) (safe : sound s ≡ true) (room : limit.entry ≤ length l) (a : ℕ) (e : a ≡ first (insideTests (s .threads) k)) (r : Answer) where
   pub move-outside : (a ≡ 0 → ⊥) → r ≡ told s 0 a → Applied s (Move k) l r l
@@ -110,7 +110,7 @@ module _ (s : State) (k : ℕ) (l : List ℕ) (safe : sound s ≡ true) (room : 
           → Applied s (Move k) l r l′
       move-done y w g n l′ d p =
           accepted-arm s (Move k) l room safe r n l′ (go-code s k a e z b safe f ∙ y)
-          (flips-short (went (place s k) (s .pending) (s .value) .flips) (owner (s .places)) k) (rw g at d) (rw g at p)
+          (few-flips (went (place s k) (s .pending) (s .value) .flips) (owner (s .places)) k) (rw g at d) (rw g at p)
 
     module _ (f : b ≡ first (idleTests (place s k))) where
       pub read-busy : (b ≡ 0 → ⊥) → r ≡ told s 0 b → Applied s (Read k) l r l

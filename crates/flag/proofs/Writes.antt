@@ -68,7 +68,7 @@ module _ (flips : Flips) (places l : List ℕ) (at k : ℕ) where
 
 -- ---------- the image
 
-used-small : (t : ℕ) → inUse t ≤ limit.threads
+pub used-small : (t : ℕ) → inUse t ≤ limit.threads
 used-small t = on (ltb t limit.threads)
     (λ b. let h : t < limit.threads = ltb-true t limit.threads b in rw b (omega arith))
     (λ b. rw b (omega arith))

@@ -3,6 +3,7 @@ pub mod Steps
 pub mod Runs
 pub mod Replays
 pub mod Pasts
+pub mod Sourceds
 pub mod Loops
 pub mod Singles
 pub mod Multisets

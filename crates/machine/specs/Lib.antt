@@ -7,3 +7,4 @@ pub mod Multiset
 pub mod Single
 pub mod Move
 pub mod Rest
+pub mod Sourced

@@ -1,0 +1,21 @@
+-- A number in decimal digits. Assumes nothing.
+use Prim.Native.Nat.{ℕ, zero, suc, _+_, _/_, _%_}
+use mathlib.Core.Bool.{cond}
+use mathlib.Core.List.{List, [], _∷_, _++_}
+use lib.Dec.{ltb}
+
+-- the last k digits of n, in ASCII, the most significant first
+abbrev pub digits : ℕ → ℕ → List ℕ
+digits zero n = []
+digits (suc k) n = digits k (n / 10) ++ ((48 + n % 10) ∷ [])
+
+-- how many digits n has: one, and one more for each time that it can be divided by ten, of which n times are always enough
+unfoldable pub placesUpTo : ℕ → ℕ → ℕ
+placesUpTo zero n = 1
+placesUpTo (suc times) n = cond (ltb 9 n) (suc (placesUpTo times (n / 10))) 1
+
+abbrev pub places : ℕ → ℕ
+places n = placesUpTo n n
+
+abbrev pub decimal : ℕ → List ℕ
+decimal n = digits (places n) n

@@ -1,0 +1,52 @@
+-- The three lines of an answer: document 01, "The program reads standard input and writes three lines". Assumes nothing.
+use Prim.Native.Nat.{ℕ, _+_, _*_}
+use mathlib.Core.Path.{_≡_}
+use mathlib.Core.Bool.{cond}
+use mathlib.Core.List.{List, [], _∷_, _++_}
+use lib.Dec.{ltb}
+use lib.ListN.{length, take}
+use Rattle.rows.specs.Stores.{over}
+use Rattle.schedule.specs.Limits as limit
+use Rattle.schedule.specs.declared.answer.Answer.{Answer}
+use Rattle.lines.specs.Decimal.{decimal}
+use Rattle.lines.specs.Hex.{shown}
+
+-- the fixed words, in ASCII: "verdict ", " at ", a line end and "log ", a line end and "state ", a line end
+abbrev pub verdictWord : List ℕ
+verdictWord = 118 ∷ 101 ∷ 114 ∷ 100 ∷ 105 ∷ 99 ∷ 116 ∷ 32 ∷ []
+
+abbrev pub atWord : List ℕ
+atWord = 32 ∷ 97 ∷ 116 ∷ 32 ∷ []
+
+abbrev pub logWord : List ℕ
+logWord = 10 ∷ 108 ∷ 111 ∷ 103 ∷ 32 ∷ []
+
+abbrev pub stateWord : List ℕ
+stateWord = 10 ∷ 115 ∷ 116 ∷ 97 ∷ 116 ∷ 101 ∷ 32 ∷ []
+
+abbrev pub lineEnd : List ℕ
+lineEnd = 10 ∷ []
+
+-- verdict C at P; the log and the state in hexadecimal digits, `-` where nothing was written
+abbrev pub linesOf : Answer → List ℕ → List ℕ → List ℕ
+linesOf a log image =
+    verdictWord ++ (decimal (a .code) ++ (atWord ++ (decimal (a .place)
+    ++ (logWord ++ (shown (take (a .logged) log) ++ (stateWord ++ (shown (take (a .imaged) image) ++ lineEnd)))))))
+
+-- the longest log that a file has, and the most bytes that the lines can take
+abbrev pub longestLog : ℕ
+longestLog = limit.steps * limit.entry
+
+abbrev pub most : ℕ
+most = 2 * (longestLog + limit.image) + 50
+
+unfoldable pub linesIn : ℕ → Answer → List ℕ → List ℕ → List ℕ
+linesIn room a log image =
+    cond (ltb room most) []
+    (cond (ltb longestLog (length log)) []
+    (cond (ltb limit.image (length image)) []
+    (linesOf a log image)))
+
+pub record Written (out : List ℕ) (a : Answer) (log image : List ℕ) (r : ℕ) (out′ : List ℕ) : Type 0 where
+  pub count : r ≡ length (linesIn (length out) a log image)
+  pub bytes : out′ ≡ over (linesIn (length out) a log image) out

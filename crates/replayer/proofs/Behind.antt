@@ -1,0 +1,147 @@
+-- From the front to the kind's loop: what the rest of an opened file comes to is the answer to the decoded file. Assumes nothing.
+use mathlib.Core.Path.{_≡_, refl, sym, _∙_}
+use mathlib.Core.Bool.{Bool}
+use mathlib.Core.List.{List, map}
+use Prim.Native.Nat.{ℕ, _+_, _≤_, _<_}
+use native.Mathlib.Omega.{arith}
+use borrow.Author.Tests.{lt-ltb, le-ltb, ne-eqb}
+use lib.ListN.{length}
+use Rattle.rows.proofs.Cases.{clash}
+use Rattle.machine.specs.Machine.{Machine}
+use Rattle.machine.specs.Rest.{Rested, restOf}
+use Rattle.schedule.specs.Limits as limit
+use Rattle.schedule.specs.Codes as code
+use Rattle.schedule.specs.Language.{Language, stepAt}
+use Rattle.schedule.specs.Spelling as spelled
+use Rattle.schedule.specs.Widths as kind
+use Rattle.schedule.specs.Reading.{Placed, broken, surplus, placed, placesFrom}
+use Rattle.schedule.specs.Front.{faultCode, faultPlace, openedOf}
+use Rattle.schedule.specs.Given.{Ready, flatReady, lockReady, countingReady, flagReady}
+use Rattle.schedule.specs.Schedule.{Schedule, ofFlat, ofLock, ofCounting, ofFlag, Decoded, faulty, good, withSteps, behindFront, decode}
+use Rattle.schedule.specs.Answers.{refusedAs, Leaves, restPlaced, restFrom}
+use Rattle.schedule.specs.declared.answer.Answer.{Answer}
+use Rattle.schedule.specs.declared.steps.Params.{Params}
+use Rattle.schedule.specs.declared.steps.Params.the-variants.{Flat, Lock, Counting, Flag}
+use Rattle.schedule.specs.declared.front.Fault.{Fault}
+use Rattle.schedule.specs.declared.front.Opened.{Opened}
+use Rattle.schedule.specs.declared.front.Opened.the-variants.{Faulty, Open}
+use Rattle.schedule.proofs.FrontSays.{paramsOf, Passed, FrontSays, front-says}
+use Rattle.flat.specs.Flat as flat
+use Rattle.flat.specs.Image as flatBytes
+use Rattle.lock.specs.Lock as lock
+use Rattle.lock.specs.Image as lockBytes
+use Rattle.counting.specs.Counting as count
+use Rattle.counting.specs.Image as countingBytes
+use Rattle.flag.specs.Flag as flag
+use Rattle.flag.specs.Image as flagBytes
+use Rattle.replayer.specs.Replay.{replayed, answered, replayOf, inputOf, openedAs}
+
+-- ---------- parameters that passed the front are in their limits
+
+abbrev pub Allowed : Params → Type 0
+Allowed (Flat n) = n ≤ limit.clients
+Allowed (Lock w t) = (1 ≤ w) × (w ≤ limit.width)
+Allowed Counting = Unit {0}
+Allowed (Flag n v) = (1 ≤ n) × (n ≤ limit.threads)
+
+ready-allowed : (f : List ℕ) (from : ℕ) (r : Ready f from) → Allowed (paramsOf f r)
+ready-allowed f from (flatReady k l n) = n
+ready-allowed f from (lockReady k l m n) = (m, n)
+ready-allowed f from (countingReady k) = tt
+ready-allowed f from (flagReady k l m n v) = (m, n)
+
+pub opened-allowed : (f : List ℕ) (p : Params) (from : ℕ) → openedOf f ≡ Open p from → Allowed p
+opened-allowed f p from e =
+    let s : Passed f p from = rw e at (front-says f) in
+    rw (s .params) (ready-allowed f from (s .ready))
+
+-- and so are those of a schedule that was decoded
+abbrev paramsIn : Schedule → Params
+paramsIn (ofFlat n xs) = Flat n
+paramsIn (ofLock w t xs) = Lock w t
+paramsIn (ofCounting xs) = Counting
+paramsIn (ofFlag n v xs) = Flag n v
+
+steps-params : {S : Type 0} (l : Language S) (f : List ℕ) (make : List S → Schedule) (p : Placed) (s : Schedule) → withSteps l f make p ≡ good s
+    → (xs : List S) × (s ≡ make xs)
+steps-params l f make (broken k) s e = clash (cc)
+steps-params l f make surplus s e = clash (cc)
+steps-params l f make (placed ps) s e = let h : make (map (stepAt l f) ps) ≡ s = cc in (map (stepAt l f) ps, sym h)
+
+behind-params : (f : List ℕ) (o : Opened) (s : Schedule) → behindFront f o ≡ good s → (from : ℕ) × (o ≡ Open (paramsIn s) from)
+behind-params f (Faulty x) s e = clash (cc)
+behind-params f (Open (Flat n) at) s e = (at, rw (steps-params spelled.flat f (ofFlat n) (placesFrom kind.flat limit.steps f at 0) s e .1))
+behind-params f (Open (Lock w t) at) s e = (at, rw (steps-params spelled.lock f (ofLock w t) (placesFrom kind.lock limit.steps f at 0) s e .1))
+behind-params f (Open Counting at) s e = (at, rw (steps-params spelled.counting f ofCounting (placesFrom kind.counting limit.steps f at 0) s e .1))
+behind-params f (Open (Flag n v) at) s e = (at, rw (steps-params spelled.flag f (ofFlag n v) (placesFrom kind.flag limit.steps f at 0) s e .1))
+
+pub decoded-allowed : (f : List ℕ) (s : Schedule) → decode f ≡ good s → Allowed (paramsIn s)
+unfolding decode
+decoded-allowed f s e = let o = behind-params f (openedOf f) s e in opened-allowed f (paramsIn s) (o .0) (o .1)
+
+-- ---------- they make a fresh machine
+
+pub flat-made : (n : ℕ) → n ≤ limit.clients → flat.freshOf n ≡ record { state = flat.emptyFlat n; code = 0 }
+flat-made n h = rw (le-ltb limit.clients n h)
+
+pub lock-made : (w t : ℕ) → 1 ≤ w → w ≤ limit.width → lock.freshOf w t ≡ record { state = lock.freshState w t; code = 0 }
+lock-made w t l h = rw (ne-eqb w 0 (λ z. omega arith), le-ltb limit.width w h)
+
+pub flag-made : (n : ℕ) (v : Bool) → 1 ≤ n → n ≤ limit.threads → flag.freshOf n v ≡ record { state = flag.emptyFlag n v; code = 0 }
+flag-made n v l h = rw (ne-eqb n 0 (λ z. omega arith), le-ltb limit.threads n h)
+
+-- ---------- the rest of the file is the answer to the decoded file
+
+module _ (m : Machine) (l : Language (m .Step)) (bytes : m .Entry → List ℕ) (imageOf : m .State → List ℕ) (s : m .State) (make : List (m .Step) → Schedule)
+    (f log image : List ℕ) (same : (xs : List (m .Step)) → replayed (make xs) log image ≡ restOf m bytes imageOf limit.entry limit.image s xs log image) where
+  placed-answered : (p : Placed) → restPlaced m l bytes imageOf s f log image p ≡ answered (withSteps l f make p) log image
+  placed-answered (broken k) = refl
+  placed-answered surplus = refl
+  placed-answered (placed ps) = sym (same _)
+
+  rest-answered : (from : ℕ) → restFrom m l bytes imageOf s f from log image ≡ answered (withSteps l f make (placesFrom (l .kind) limit.steps f from 0)) log image
+  unfolding restFrom
+  rest-answered from = placed-answered (placesFrom (l .kind) limit.steps f from 0)
+
+module _ (f log image : List ℕ) where
+  opened-answered : (p : Params) (from : ℕ) → Allowed p → openedAs f p from log image ≡ answered (behindFront f (Open p from)) log image
+  opened-answered (Flat n) from a =
+      rw (flat-made n a) (rest-answered flat.flat spelled.flat flatBytes.entryBytes flatBytes.imageBytes (flat.emptyFlat n) (ofFlat n) f log image (λ xs. refl) from)
+  opened-answered (Lock w t) from a =
+      rw (lock-made w t (a .0) (a .1))
+      (rest-answered lock.lock spelled.lock lockBytes.entryBytes lockBytes.imageBytes (lock.freshState w t) (ofLock w t) f log image (λ xs. refl) from)
+  opened-answered Counting from a =
+      rest-answered count.counting spelled.counting countingBytes.entryBytes countingBytes.imageBytes count.freshState ofCounting f log image (λ xs. refl) from
+  opened-answered (Flag n v) from a =
+      rw (flag-made n v (a .0) (a .1))
+      (rest-answered flag.flag spelled.flag flagBytes.entryBytes flagBytes.imageBytes (flag.emptyFlag n v) (ofFlag n v) f log image (λ xs. refl) from)
+
+  -- ---------- the ways out of `replay`
+
+  module _ (o : Opened) (q : o ≡ openedOf f) where
+    pub faulty-answered : (x : Fault) → o ≡ Faulty x → (a : ℕ) → a ≡ faultCode x → (b : ℕ) → b ≡ faultPlace x → (r : Answer) → r ≡ refusedAs a b
+        → Leaves (replayOf f log image) r log image
+    unfolding replayOf decode
+    faulty-answered x e a pa b pb r p = rw (← q, e) (record { answer = p ∙ rw (pa, pb); log = refl; image = refl })
+
+    pub open-answered : (p : Params) (from : ℕ) → o ≡ Open p from → (r : Answer) (log′ image′ : List ℕ) → Leaves (openedAs f p from log image) r log′ image′
+        → Leaves (replayOf f log image) r log′ image′
+    unfolding replayOf decode
+    open-answered p from e r log′ image′ d =
+        let w : openedOf f ≡ Open p from = sym q ∙ e in
+        rw (w, ← opened-answered p from (opened-allowed f p from w)) d
+
+-- ---------- the ways out of `behind_front`: the kind is known
+
+module _ (f : List ℕ) (x : Params) (from : ℕ) (log image : List ℕ) (r : Answer) (log′ image′ : List ℕ) where
+  pub as-kind : (p : Params) → x ≡ p → Leaves (openedAs f p from log image) r log′ image′ → Leaves (openedAs f x from log image) r log′ image′
+  as-kind p e d = rw e d
+
+-- ---------- and of `replay_input`
+
+module _ (f log image : List ℕ) (r : Answer) where
+  pub too-large : limit.body + 3 < length f → r ≡ refusedAs code.body 0 → Leaves (inputOf f log image) r log image
+  too-large h p = rw (lt-ltb (limit.body + 3) (length f) h) (record { answer = p; log = refl; image = refl })
+
+  pub as-file : (log′ image′ : List ℕ) → length f ≤ limit.body + 3 → Leaves (replayOf f log image) r log′ image′ → Leaves (inputOf f log image) r log′ image′
+  as-file log′ image′ h d = rw (le-ltb (limit.body + 3) (length f) h) d

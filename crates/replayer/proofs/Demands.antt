@@ -1,0 +1,197 @@
+-- The three demands hold of any bytes and any two buffers. Assumes nothing.
+use mathlib.Core.Path.{_≡_, refl, sym, _∙_}
+use mathlib.Core.Bool.{Bool, true}
+use mathlib.Core.List.{List, [], _∷_, _++_}
+use Prim.Native.Nat.{ℕ, _+_, _≤_, _<_}
+use native.Mathlib.Omega.{arith}
+use lib.ListN.{length}
+use Rattle.machine.specs.Machine.{Machine}
+use Rattle.machine.specs.History.{Run, start}
+use Rattle.machine.specs.Replay.{AllAccepted, after, past}
+use Rattle.machine.specs.Rest.{Rested, untouched}
+use Rattle.machine.specs.Sourced.{AllEnabled}
+use Rattle.machine.proofs.Pasts.{ran}
+use Rattle.machine.proofs.Singles.{single-unsound}
+use Rattle.machine.proofs.Sourceds.{all-accepted, after-good}
+use Rattle.schedule.specs.Limits as limit
+use Rattle.schedule.specs.Codes as code
+use Rattle.schedule.specs.Front.{faultCode, faultPlace}
+use Rattle.schedule.specs.Schedule.{Schedule, ofFlat, ofLock, ofCounting, ofFlag, Decoded, faulty, good, decode}
+use Rattle.schedule.specs.Answers.{Leaves}
+use Rattle.schedule.specs.declared.answer.Answer.{Answer}
+use Rattle.schedule.specs.declared.front.Fault.{Fault}
+use Rattle.schedule.specs.declared.front.Fault.the-variants.{Length, Version, Body, Kind, Parameter, Step, Surplus}
+use Rattle.schedule.specs.declared.steps.FlatStep.{FlatStep}
+use Rattle.schedule.specs.declared.steps.LockStep.{LockStep}
+use Rattle.schedule.specs.declared.steps.CountingStep.{CountingStep}
+use Rattle.schedule.specs.declared.steps.FlagStep.{FlagStep}
+use Rattle.schedule.specs.declared.steps.FlagStep.the-variants.{Begin, Move, Read}
+use Rattle.schedule.proofs.Given.{faults-given}
+use Rattle.flat.specs.Flat.{flat, emptyFlat}
+use Rattle.flat.specs.Sound as flatSound
+use Rattle.flat.specs.Refined as flatTo
+use Rattle.flat.specs.Image as flatBytes
+use Rattle.flat.proofs.Demands as flatProved
+use Rattle.flat.proofs.Refines as flatRefined
+use Rattle.lock.specs.Lock.{lock, freshState}
+use Rattle.lock.specs.Sound as lockSound
+use Rattle.lock.specs.Refined as lockTo
+use Rattle.lock.specs.Image as lockBytes
+use Rattle.lock.proofs.Demands as lockProved
+use Rattle.lock.proofs.Refines as lockRefined
+use Rattle.counting.specs.Counting as count
+use Rattle.counting.specs.Sound as countingSound
+use Rattle.counting.specs.Image as countingBytes
+use Rattle.counting.proofs.Demands as countingProved
+use Rattle.flag.specs.Flag.{flag, emptyFlag, next}
+use Rattle.flag.specs.declared.state.State as flagState
+use Rattle.flag.specs.Sound as flagSound
+use Rattle.flag.specs.Refined as flagTo
+use Rattle.flag.specs.Image as flagBytes
+use Rattle.flag.proofs.Demands as flagProved
+use Rattle.flag.proofs.Refines as flagRefined
+use Rattle.flat_run.proofs.Turns as flatRun
+use Rattle.lock_run.proofs.Turns as lockRun
+use Rattle.counting_run.proofs.Turns as countingRun
+use Rattle.flag_run.proofs.Turns as flagRun
+use Rattle.replayer.specs.Replay.{replayed, answered, replayOf}
+use Rattle.replayer.specs.Sources.{flatCombine, distRwLock, countingPermissions, helping}
+use Rattle.replayer.specs.Demands.{steps#, Room, Demand1, Demand2, Demand3}
+use Rattle.replayer.proofs.Behind.{decoded-allowed}
+use Rattle.replayer.proofs.Rooms.{Keeps, untouched-keeps, no-room, rest-keeps, replays}
+use Rattle.replayer.proofs.Four.{flat-upholds, lock-upholds, counting-upholds, flag-upholds, flat-fresh, lock-fresh, flag-fresh, single-exact, flat-codes, lock-codes, counting-codes, flag-codes}
+
+-- ---------- 1
+
+module _ (log image : List ℕ) where
+  -- each fault has one of the codes 1 to 7
+  fault-keeps : (x : Fault) → Keeps log image (untouched (faultCode x) (faultPlace x) log image)
+  fault-keeps Length = untouched-keeps code.length 0 log image (omega arith) (omega arith)
+  fault-keeps Version = untouched-keeps code.version 0 log image (omega arith) (omega arith)
+  fault-keeps Body = untouched-keeps code.body 0 log image (omega arith) (omega arith)
+  fault-keeps Kind = untouched-keeps code.kind 0 log image (omega arith) (omega arith)
+  fault-keeps Parameter = untouched-keeps code.parameter 0 log image (omega arith) (omega arith)
+  fault-keeps (Step k) = untouched-keeps code.malformed k log image (omega arith) (omega arith)
+  fault-keeps Surplus = untouched-keeps code.surplus limit.steps log image (omega arith) (omega arith)
+
+  schedule-keeps : (s : Schedule) → Keeps log image (replayed s log image)
+  schedule-keeps (ofFlat n xs) = rest-keeps flat flatBytes.entryBytes flatBytes.imageBytes (emptyFlat n) xs log image flat-codes flatRun.short flatRun.small
+  schedule-keeps (ofLock w t xs) = rest-keeps lock lockBytes.entryBytes lockBytes.imageBytes (freshState w t) xs log image lock-codes lockRun.short lockRun.small
+  schedule-keeps (ofCounting xs) =
+      rest-keeps count.counting countingBytes.entryBytes countingBytes.imageBytes count.freshState xs log image counting-codes countingRun.short countingRun.small
+  schedule-keeps (ofFlag n v xs) = rest-keeps flag flagBytes.entryBytes flagBytes.imageBytes (emptyFlag n v) xs log image flag-codes flagRun.short flagRun.small
+
+  answered-keeps : (d : Decoded) → Keeps log image (answered d log image)
+  answered-keeps (faulty x) = fault-keeps x
+  answered-keeps (good s) = schedule-keeps s
+
+  schedule-short : (s : Schedule) → (Room (steps# s) log image → ⊥) → replayed s log image ≡ untouched code.room 0 log image
+  schedule-short (ofFlat n xs) = no-room flat flatBytes.entryBytes flatBytes.imageBytes (emptyFlat n) xs log image
+  schedule-short (ofLock w t xs) = no-room lock lockBytes.entryBytes lockBytes.imageBytes (freshState w t) xs log image
+  schedule-short (ofCounting xs) = no-room count.counting countingBytes.entryBytes countingBytes.imageBytes count.freshState xs log image
+  schedule-short (ofFlag n v xs) = no-room flag flagBytes.entryBytes flagBytes.imageBytes (emptyFlag n v) xs log image
+
+module _ (f log image : List ℕ) where
+  decoded : (d : Decoded) → decode f ≡ d → replayOf f log image ≡ answered d log image
+  unfolding replayOf
+  decoded d e = rw e
+
+  keeps : Keeps log image (replayOf f log image)
+  keeps = rw (decoded (decode f) refl) (answered-keeps log image (decode f))
+
+  pub demand1 : Demand1 f log image
+  demand1 =
+      record {
+        one-answer = λ r q k l i j a b. (a .answer ∙ sym (b .answer), a .log ∙ sym (b .log), a .image ∙ sym (b .image));
+        given = faults-given f;
+        fault = λ x e. decoded (faulty x) e;
+        short = λ s e n. decoded (good s) e ∙ schedule-short log image s n;
+        refused-file = keeps .refused-file;
+        known = keeps .known;
+        log-kept = keeps .log-kept;
+        image-kept = keeps .image-kept;
+        made-up-flat = λ s x l h e. single-unsound flat flatSound.sound limit.entry s x l h e;
+        made-up-lock = λ s x l h e. single-unsound lock lockSound.sound limit.entry s x l h e;
+        made-up-counting = λ s x l h e. single-unsound count.counting countingSound.sound limit.entry s x l h e;
+        made-up-flag = λ s x l h e. single-unsound flag flagSound.sound limit.entry s x l h e;
+      }
+
+-- ---------- 2
+
+module _ (f log image : List ℕ) where
+  pub demand2 : Demand2 f log image
+  demand2 =
+      record {
+        step-flat = flat-upholds;
+        step-lock = lock-upholds;
+        step-counting = counting-upholds;
+        step-flag = flag-upholds;
+        single-flat = single-exact flatCombine flatTo.Sound flatSound.sound flat-upholds (flatRefined.refines .told-sound);
+        single-lock = single-exact distRwLock lockTo.Sound lockSound.sound lock-upholds (lockRefined.refines .told-sound);
+        single-counting = single-exact countingPermissions (λ s. countingSound.sound s ≡ true) countingSound.sound counting-upholds (λ s e. e);
+        single-flag = single-exact helping flagTo.Sound flagSound.sound flag-upholds (flagRefined.refines .told-sound);
+        file-flat = λ n xs e r. rw (decoded f log image (good (ofFlat n xs)) e)
+            (replays flat flatBytes.entryBytes flatBytes.imageBytes (emptyFlat n) xs log image flatCombine flatTo.Sound flat-upholds
+            (flat-fresh n (decoded-allowed f (ofFlat n xs) e)) r);
+        file-lock = λ w t xs e r. let a = decoded-allowed f (ofLock w t xs) e in
+            rw (decoded f log image (good (ofLock w t xs)) e)
+            (replays lock lockBytes.entryBytes lockBytes.imageBytes (freshState w t) xs log image distRwLock lockTo.Sound lock-upholds (lock-fresh w t (a .0) (a .1)) r);
+        file-counting = λ xs e r. rw (decoded f log image (good (ofCounting xs)) e)
+            (replays count.counting countingBytes.entryBytes countingBytes.imageBytes count.freshState xs log image countingPermissions (λ s. countingSound.sound s ≡ true)
+            counting-upholds refl r);
+        file-flag = λ n v xs e r. let a = decoded-allowed f (ofFlag n v xs) e in
+            rw (decoded f log image (good (ofFlag n v xs)) e)
+            (replays flag flagBytes.entryBytes flagBytes.imageBytes (emptyFlag n v) xs log image helping flagTo.Sound flag-upholds (flag-fresh n v (a .0) (a .1)) r);
+      }
+
+-- ---------- 3
+
+-- steps that are accepted one after the other are a history
+history : (m : Machine) (s : m .State) (ys : List (m .Step)) → AllAccepted m s ys → Run m s (past m [] s ys) (after m s ys)
+history m s ys a = ran m s [] s ys start a
+
+-- no step changes how many threads there are
+threads-kept : (s : flagState.State) (ys : List FlagStep) → after flag s ys .threads ≡ s .threads
+threads-kept s [] = refl
+threads-kept s (Begin k ∷ ys) = threads-kept (next s (Begin k)) ys
+threads-kept s (Move k ∷ ys) = threads-kept (next s (Move k)) ys
+threads-kept s (Read k ∷ ys) = threads-kept (next s (Read k)) ys
+
+module _ (f : List ℕ) where
+  module _ (w t : ℕ) (xs ys : List LockStep) (e : decode f ≡ good (ofLock w t xs)) (n : AllEnabled distRwLock (freshState w t) ys) where
+    lock-run : Run lock (freshState w t) (past lock [] (freshState w t) ys) (after lock (freshState w t) ys)
+    lock-run =
+        let a = decoded-allowed f (ofLock w t xs) e in
+        history lock (freshState w t) ys (all-accepted distRwLock lockTo.Sound lock-upholds (freshState w t) ys (lock-fresh w t (a .0) (a .1)) n)
+
+  flat-run : (n : ℕ) (xs ys : List FlatStep) → decode f ≡ good (ofFlat n xs) → AllEnabled flatCombine (emptyFlat n) ys
+      → Run flat (emptyFlat n) (past flat [] (emptyFlat n) ys) (after flat (emptyFlat n) ys)
+  flat-run n xs ys e a =
+      history flat (emptyFlat n) ys (all-accepted flatCombine flatTo.Sound flat-upholds (emptyFlat n) ys (flat-fresh n (decoded-allowed f (ofFlat n xs) e)) a)
+
+  counting-run : (ys : List CountingStep) → AllEnabled countingPermissions count.freshState ys
+      → Run count.counting count.freshState (past count.counting [] count.freshState ys) (after count.counting count.freshState ys)
+  counting-run ys a =
+      history count.counting count.freshState ys (all-accepted countingPermissions (λ s. countingSound.sound s ≡ true) counting-upholds count.freshState ys refl a)
+
+  module _ (n : ℕ) (v : Bool) (xs ys : List FlagStep) (e : decode f ≡ good (ofFlag n v xs)) (a : AllEnabled helping (emptyFlag n v) ys) where
+    flag-in : (1 ≤ n) × (n ≤ limit.threads)
+    flag-in = decoded-allowed f (ofFlag n v xs) e
+
+    flag-all : AllAccepted flag (emptyFlag n v) ys
+    flag-all = all-accepted helping flagTo.Sound flag-upholds (emptyFlag n v) ys (flag-fresh n v (flag-in .0) (flag-in .1)) a
+
+    flag-sound : flagTo.Sound (after flag (emptyFlag n v) ys)
+    flag-sound = after-good helping flagTo.Sound flag-upholds (emptyFlag n v) ys (flag-fresh n v (flag-in .0) (flag-in .1)) flag-all
+
+  pub demand3 : Demand3 f
+  demand3 =
+      record {
+        guards = λ w t xs ys zs e p a. let i = decoded-allowed f (ofLock w t xs) e in lockProved.demanded w t (i .0) (i .1) _ _ (lock-run w t xs ys e a);
+        cells = λ w t xs ys zs e p a. let i = decoded-allowed f (ofLock w t xs) e in lockProved.cells-counted w t (i .0) (i .1) _ _ (lock-run w t xs ys e a);
+        answers = λ n xs ys zs e p a. flatProved.demanded n (decoded-allowed f (ofFlat n xs) e) _ _ (flat-run n xs ys e a);
+        references = λ xs ys zs e p a. countingProved.demanded _ _ (counting-run ys a);
+        flips = λ n v xs ys zs e p a. let i = flag-in n v xs ys e a in
+            flagProved.demanded n v (i .0) (i .1) _ _ (history flag (emptyFlag n v) ys (flag-all n v xs ys e a));
+        alone = λ n v xs ys zs e p a k h. flagRefined.refines .ends _ (flag-sound n v xs ys e a) k (rw (threads-kept (emptyFlag n v) ys) h);
+      }

@@ -1,0 +1,139 @@
+-- What the four machines bring to the demands: their sources upheld, fresh machines sound, the range of their codes. Assumes nothing.
+use mathlib.Core.Path.{_≡_, refl}
+use mathlib.Core.Bool.{Bool, true}
+use mathlib.Core.List.{List}
+use mathlib.Core.Option.{some}
+use Prim.Native.Nat.{ℕ, _≤_}
+use lib.ListN.{length}
+use Rattle.machine.specs.Machine.{Machine}
+use Rattle.machine.specs.Single.{single}
+use Rattle.machine.specs.Sourced.{Sourced, Upholds}
+use Rattle.machine.proofs.Steps.{accepted-code}
+use Rattle.machine.proofs.Singles.{single-accepted, zero-accepted}
+use Rattle.schedule.specs.Limits as limit
+use Rattle.schedule.specs.Codes as code
+use Rattle.schedule.specs.declared.steps.FlatStep.{FlatStep}
+use Rattle.schedule.specs.declared.steps.FlatStep.the-variants.{ClientSend, ClientRecv, CombinerRecv, CombinerSkip, CombinerGoToResponding, CombinerSend, CombinerSendSkip, CombinerGoToCollecting}
+use Rattle.schedule.specs.declared.steps.LockStep.{LockStep}
+use Rattle.schedule.specs.declared.steps.LockStep.the-variants.{ExcStart, ExcCheckCount, ExcFinish, ExcRelease, SharedStart, SharedFinish, SharedRelease}
+use Rattle.schedule.specs.declared.steps.CountingStep.{CountingStep}
+use Rattle.schedule.specs.declared.steps.CountingStep.the-variants.{WriteableToReadable, ReadableToWriteable, NewRef, DeleteRef}
+use Rattle.schedule.specs.declared.steps.FlagStep.{FlagStep}
+use Rattle.schedule.specs.declared.steps.FlagStep.the-variants.{Begin, Move, Read}
+use Rattle.flat.specs.Flat as flat
+use Rattle.flat.specs.Refined as flatTo
+use Rattle.flat.specs.declared.state.State as flatState
+use Rattle.flat.proofs.Refines as flatProved
+use Rattle.lock.specs.Lock as lock
+use Rattle.lock.specs.Refined as lockTo
+use Rattle.lock.specs.declared.state.State as lockState
+use Rattle.lock.proofs.Refines as lockProved
+use Rattle.counting.specs.Counting as count
+use Rattle.counting.specs.Sound as countingSound
+use Rattle.counting.specs.declared.state.State as countingState
+use Rattle.counting.proofs.Refines as countingProved
+use Rattle.flag.specs.Flag as flag
+use Rattle.flag.specs.Refined as flagTo
+use Rattle.flag.specs.declared.state.State as flagState
+use Rattle.flag.proofs.Refines as flagProved
+use Rattle.replayer.specs.Sources.{flatCombine, distRwLock, countingPermissions, helping}
+use Rattle.replayer.specs.Demands.{SingleExact}
+use Rattle.replayer.proofs.Rooms.{spans}
+
+-- ---------- the sources are upheld
+
+pub flat-upholds : Upholds flatCombine flatTo.Sound
+flat-upholds =
+    let r = flatProved.refines in
+    record {
+      accepted-enabled = r .accepted-enabled;
+      enabled-accepted = r .enabled-accepted;
+      accepted-moves = r .accepted-moves;
+      accepted-logs = r .accepted-logs;
+      accepted-good = r .accepted-sound;
+    }
+
+pub lock-upholds : Upholds distRwLock lockTo.Sound
+lock-upholds =
+    let r = lockProved.refines in
+    record {
+      accepted-enabled = r .accepted-enabled;
+      enabled-accepted = r .enabled-accepted;
+      accepted-moves = r .accepted-moves;
+      accepted-logs = r .accepted-logs;
+      accepted-good = r .accepted-sound;
+    }
+
+pub counting-upholds : Upholds countingPermissions (λ s. countingSound.sound s ≡ true)
+counting-upholds =
+    let r = countingProved.refines in
+    record {
+      accepted-enabled = r .accepted-enabled;
+      enabled-accepted = r .enabled-accepted;
+      accepted-moves = r .accepted-moves;
+      accepted-logs = r .accepted-logs;
+      accepted-good = r .accepted-sound;
+    }
+
+pub flag-upholds : Upholds helping flagTo.Sound
+flag-upholds =
+    let r = flagProved.refines in
+    record {
+      accepted-enabled = r .accepted-enabled;
+      enabled-accepted = r .enabled-accepted;
+      accepted-moves = r .accepted-moves;
+      accepted-logs = r .accepted-logs;
+      accepted-good = r .accepted-sound;
+    }
+
+-- ---------- fresh machines are sound
+
+pub flat-fresh : (n : ℕ) → n ≤ limit.clients → flatTo.Sound (flat.emptyFlat n)
+flat-fresh n h = let r = flatProved.refines in r .sound-told (flat.emptyFlat n) refl refl (r .fresh-sound n h)
+
+pub lock-fresh : (w t : ℕ) → 1 ≤ w → w ≤ limit.width → lockTo.Sound (lock.freshState w t)
+lock-fresh w t l h = let r = lockProved.refines in r .sound-told (lock.freshState w t) refl (r .fresh-sound w t l h)
+
+pub flag-fresh : (n : ℕ) (v : Bool) → 1 ≤ n → n ≤ limit.threads → flagTo.Sound (flag.emptyFlag n v)
+flag-fresh n v l h = let r = flagProved.refines in r .sound-told (flag.emptyFlag n v) refl (r .fresh-sound n v l h)
+
+-- ---------- a single step, by the source
+
+pub single-exact : {m : Machine} (o : Sourced m) (Good : m .State → Type 0) (sound : m .State → Bool) → Upholds o Good → ((s : m .State) → Good s → sound s ≡ true) → SingleExact o Good sound
+single-exact {m} o Good sound u told =
+    record {
+      enabled = λ s x log h g z. u .accepted-enabled s x g (zero-accepted m sound limit.entry s x log z);
+      does = λ s x log h g e. single-accepted m sound limit.entry s x log h (told s g) (accepted-code m s x (u .enabled-accepted s x g e));
+    }
+
+-- ---------- the codes of steps go from 11 to 18
+
+pub flat-codes : (q : flatState.State) (x : FlatStep) → spans code.outside code.full (flat.tests q x) ≡ true
+flat-codes q (ClientSend j rid req) = refl
+flat-codes q (ClientRecv j) = refl
+flat-codes q CombinerRecv = refl
+flat-codes q CombinerSkip = refl
+flat-codes q CombinerGoToResponding = refl
+flat-codes q (CombinerSend rid resp) = refl
+flat-codes q CombinerSendSkip = refl
+flat-codes q CombinerGoToCollecting = refl
+
+pub lock-codes : (q : lockState.State) (x : LockStep) → spans code.outside code.full (lock.tests q x) ≡ true
+lock-codes q ExcStart = refl
+lock-codes q ExcCheckCount = refl
+lock-codes q ExcFinish = refl
+lock-codes q (ExcRelease t) = refl
+lock-codes q (SharedStart r) = refl
+lock-codes q (SharedFinish r) = refl
+lock-codes q (SharedRelease r t) = refl
+
+pub counting-codes : (q : countingState.State) (x : CountingStep) → spans code.outside code.full (count.tests q x) ≡ true
+counting-codes q (WriteableToReadable t) = refl
+counting-codes q ReadableToWriteable = refl
+counting-codes q NewRef = refl
+counting-codes q (DeleteRef t) = refl
+
+pub flag-codes : (q : flagState.State) (x : FlagStep) → spans code.outside code.full (flag.tests q x) ≡ true
+flag-codes q (Begin k) = refl
+flag-codes q (Move k) = refl
+flag-codes q (Read k) = refl

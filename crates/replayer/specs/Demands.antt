@@ -1,0 +1,166 @@
+-- THE THREE DEMANDS, of any bytes and any two buffers. The user's sentences stand above the clauses that give them; proofs/Demands.antt proves all
+-- three. Assumes nothing.
+use mathlib.Core.Path.{_≡_}
+use mathlib.Core.Bool.{Bool, true, false}
+use mathlib.Core.Logic.{_⊎_}
+use mathlib.Core.List.{List, [], _++_}
+use mathlib.Core.Option.{some}
+use Prim.Native.Nat.{ℕ, _+_, _*_, _≤_, _<_}
+use lib.ListN.{length, take}
+use Rattle.rows.specs.Stores.{over}
+use Rattle.rows.specs.Walk.{pieces}
+use Rattle.machine.specs.Machine.{Machine}
+use Rattle.machine.specs.History.{logOf}
+use Rattle.machine.specs.Replay.{Replayed, after, past}
+use Rattle.machine.specs.Rest.{Rested, untouched}
+use Rattle.machine.specs.Single.{single, handedBack}
+use Rattle.machine.specs.Sourced.{Sourced, AllEnabled, Exact, Upholds}
+use Rattle.schedule.specs.Limits as limit
+use Rattle.schedule.specs.Codes as code
+use Rattle.schedule.specs.Front.{faultCode, faultPlace}
+use Rattle.schedule.specs.Given.{FaultsGiven}
+use Rattle.schedule.specs.Schedule.{Schedule, ofFlat, ofLock, ofCounting, ofFlag, faulty, good, decode}
+use Rattle.schedule.specs.Answers.{Leaves}
+use Rattle.schedule.specs.declared.answer.Answer.{Answer}
+use Rattle.schedule.specs.declared.front.Fault.{Fault}
+use Rattle.schedule.specs.declared.steps.FlatStep.{FlatStep}
+use Rattle.schedule.specs.declared.steps.LockStep.{LockStep}
+use Rattle.schedule.specs.declared.steps.CountingStep.{CountingStep}
+use Rattle.schedule.specs.declared.steps.FlagStep.{FlagStep}
+use Rattle.flat.specs.Flat.{flat, emptyFlat}
+use Rattle.flat.specs.Sound as flatSound
+use Rattle.flat.specs.Refined as flatTo
+use Rattle.flat.specs.Image as flatBytes
+use Rattle.flat.specs.Demand as flatDemand
+use Rattle.lock.specs.Lock.{lock, freshState, cell}
+use Rattle.lock.specs.Sound as lockSound
+use Rattle.lock.specs.Refined as lockTo
+use Rattle.lock.specs.Image as lockBytes
+use Rattle.lock.specs.Demand as lockDemand
+use Rattle.counting.specs.Counting as count
+use Rattle.counting.specs.Sound as countingSound
+use Rattle.counting.specs.Image as countingBytes
+use Rattle.counting.specs.Demand as countingDemand
+use Rattle.flag.specs.Flag.{flag, emptyFlag}
+use Rattle.flag.specs.Sound as flagSound
+use Rattle.flag.specs.Refined as flagTo
+use Rattle.flag.specs.Image as flagBytes
+use Rattle.flag.specs.Demand as flagDemand
+use Rattle.replayer.specs.Replay.{replayOf}
+use Rattle.replayer.specs.Sources.{flatCombine, distRwLock, countingPermissions, helping}
+
+-- how many steps a schedule has, and buffers of document 01's sizes for n steps
+abbrev pub steps# : Schedule → ℕ
+steps# (ofFlat n xs) = length xs
+steps# (ofLock w t xs) = length xs
+steps# (ofCounting xs) = length xs
+steps# (ofFlag n v xs) = length xs
+
+pub record Room (n : ℕ) (log image : List ℕ) : Type 0 where
+  pub entries : n * limit.entry ≤ length log
+  pub state : limit.image ≤ length image
+
+-- ---------- 1
+
+-- a made-up state: a single step tests it and, if it is not sound, answers 10, hands it back and logs nothing
+abbrev pub MadeUpRefused : (m : Machine) → (m .State → Bool) → Type 0
+MadeUpRefused m sound =
+    (s : m .State) (x : m .Step) (log : List ℕ) → limit.entry ≤ length log → sound s ≡ false → single m sound limit.entry s (some x) log ≡ handedBack code.unsound s
+
+-- what is written, and that the bytes beyond keep their values
+pub record Wrote (count : ℕ) (before after : List ℕ) : Type 0 where
+  pub bytes : List ℕ
+  pub many : length bytes ≡ count
+  pub fits : length bytes ≤ length before
+  pub over-front : after ≡ over bytes before
+
+-- "Any bytes given as a schedule get one answer, and the caller never has to have checked anything": `replay` has no `requires`, and promises
+-- `Leaves (replayOf f log image)` of its answer and of both buffers, whatever they are
+pub record Demand1 (f log image : List ℕ) : Type 0 where
+  -- one answer: two that meet the promise are equal, and so are the buffers that they leave
+  pub one-answer : (r q : Answer) (k l i j : List ℕ) → Leaves (replayOf f log image) r k i → Leaves (replayOf f log image) q l j → (r ≡ q) × (k ≡ l) × (i ≡ j)
+  -- codes 1 to 7, each exactly when document 01 gives it; then 8 exactly when a buffer is under its size
+  pub given : FaultsGiven f
+  pub fault : (x : Fault) → decode f ≡ faulty x → replayOf f log image ≡ untouched (faultCode x) (faultPlace x) log image
+  pub short : (s : Schedule) → decode f ≡ good s → (Room (steps# s) log image → ⊥) → replayOf f log image ≡ untouched code.room 0 log image
+  -- "A refused file leaves the log and state buffers untouched." A file is refused by 1 to 8; any other code is 0 or a step's, 11 to 18
+  pub refused-file : let a = replayOf f log image in 1 ≤ a .code → a .code ≤ code.unsound → a ≡ untouched (a .code) (a .place) log image
+  pub known : let c = replayOf f log image .code in (c ≡ 0) ⊎ ((1 ≤ c) × (c ≤ code.room)) ⊎ ((code.outside ≤ c) × (c ≤ code.full))
+  -- nothing is written but entries and image, at the front of their buffers
+  pub log-kept : let a = replayOf f log image in Wrote (a .logged) log (a .log)
+  pub image-kept : let a = replayOf f log image in Wrote (a .imaged) image (a .image)
+  -- "A made-up machine state is tested and, if not sound, refused."
+  pub made-up-flat : MadeUpRefused flat flatSound.sound
+  pub made-up-lock : MadeUpRefused lock lockSound.sound
+  pub made-up-counting : MadeUpRefused count.counting countingSound.sound
+  pub made-up-flag : MadeUpRefused flag flagSound.sound
+
+-- "A refused step leaves the state that stood before it and the log of the steps before it": the fields state and log of `Exact`, below
+
+-- ---------- 2
+
+-- a file's answer a, in the machine's own words: what the replay `said` that goes exactly by the source, laid over the buffers
+pub record Replays {m : Machine} (o : Sourced m) (bytes : m .Entry → List ℕ) (imageOf : m .State → List ℕ) (s₀ : m .State) (xs : List (m .Step)) (log image : List ℕ)
+    (a : Rested) : Type 0 where
+  pub said : Replayed m
+  pub exact : Exact o s₀ xs said
+  pub code : a .code ≡ said .code
+  pub place : a .place ≡ said .place
+  pub logged : a .logged ≡ length (pieces bytes (said .log))
+  pub imaged : a .imaged ≡ length (imageOf (said .state))
+  pub log-bytes : a .log ≡ over (pieces bytes (said .log)) log
+  pub image-bytes : a .image ≡ over (imageOf (said .state)) image
+  -- the log is that of the history of the accepted steps, of which demand 3 speaks
+  pub history : said .log ≡ logOf (past m [] s₀ (take (said .place) xs))
+
+-- a single step on a sound state, with a log buffer of document 01's size: 0 exactly when it is enabled, and then what the step does
+pub record SingleExact {m : Machine} (o : Sourced m) (Good : m .State → Type 0) (sound : m .State → Bool) : Type 0 where
+  pub enabled : (s : m .State) (x : m .Step) (log : List ℕ) → limit.entry ≤ length log → Good s → single m sound limit.entry s (some x) log .code ≡ 0 → o .Enabled s x
+  pub does : (s : m .State) (x : m .Step) (log : List ℕ) → limit.entry ≤ length log → Good s → o .Enabled s x
+      → single m sound limit.entry s (some x) log ≡ record { code = 0; state = m .next s x; wrote = m .logs s x }
+
+pub record Demand2 (f log image : List ℕ) : Type 0 where
+  -- "A step is accepted exactly when its transition in the source is enabled and the counter limit of document 01 isn't reached, and it then does what
+  -- the source says": of every sound state, and all that a schedule reaches are sound
+  pub step-flat : Upholds flatCombine flatTo.Sound
+  pub step-lock : Upholds distRwLock lockTo.Sound
+  pub step-counting : Upholds countingPermissions (λ s. countingSound.sound s ≡ true)
+  pub step-flag : Upholds helping flagTo.Sound
+  pub single-flat : SingleExact flatCombine flatTo.Sound flatSound.sound
+  pub single-lock : SingleExact distRwLock lockTo.Sound lockSound.sound
+  pub single-counting : SingleExact countingPermissions (λ s. countingSound.sound s ≡ true) countingSound.sound
+  pub single-flag : SingleExact helping flagTo.Sound flagSound.sound
+  -- "With buffers of document 01's sizes, a well-formed schedule is refused exactly at its first disabled step, by index and reason; a step at the limit
+  -- counts as disabled": the field `exact` of each
+  pub file-flat : (n : ℕ) (xs : List FlatStep) → decode f ≡ good (ofFlat n xs) → Room (length xs) log image
+      → Replays flatCombine flatBytes.entryBytes flatBytes.imageBytes (emptyFlat n) xs log image (replayOf f log image)
+  pub file-lock : (w t : ℕ) (xs : List LockStep) → decode f ≡ good (ofLock w t xs) → Room (length xs) log image
+      → Replays distRwLock lockBytes.entryBytes lockBytes.imageBytes (freshState w t) xs log image (replayOf f log image)
+  pub file-counting : (xs : List CountingStep) → decode f ≡ good (ofCounting xs) → Room (length xs) log image
+      → Replays countingPermissions countingBytes.entryBytes countingBytes.imageBytes count.freshState xs log image (replayOf f log image)
+  pub file-flag : (n : ℕ) (v : Bool) (xs : List FlagStep) → decode f ≡ good (ofFlag n v xs) → Room (length xs) log image
+      → Replays helping flagBytes.entryBytes flagBytes.imageBytes (emptyFlag n v) xs log image (replayOf f log image)
+
+-- ---------- 3
+
+-- "After every accepted prefix from a fresh machine": ys, of the steps of any file, each enabled in turn
+pub record Demand3 (f : List ℕ) : Type 0 where
+  -- "no writer guard stands beside a reader guard, and each reader guard carries the record of the latest writer release, or the initial one"
+  pub guards : (w t : ℕ) (xs ys zs : List LockStep) → decode f ≡ good (ofLock w t xs) → xs ≡ ys ++ zs → AllEnabled distRwLock (freshState w t) ys
+      → lockDemand.Demand t (past lock [] (freshState w t) ys)
+  -- document 01: "a cell equals its accepted shared_starts less its accepted shared_releases"
+  pub cells : (w t : ℕ) (xs ys zs : List LockStep) → decode f ≡ good (ofLock w t xs) → xs ≡ ys ++ zs → AllEnabled distRwLock (freshState w t) ys
+      → let h = past lock [] (freshState w t) ys in (r : ℕ) → cell (after lock (freshState w t) ys) r .count + lockDemand.releases h r ≡ lockDemand.starts h r
+  -- "a client's k-th answer belongs to its k-th request, with that request's id and the payload of the one combiner send made for it"
+  pub answers : (n : ℕ) (xs ys zs : List FlatStep) → decode f ≡ good (ofFlat n xs) → xs ≡ ys ++ zs → AllEnabled flatCombine (emptyFlat n) ys
+      → flatDemand.Demand (past flat [] (emptyFlat n) ys)
+  -- the counting machine's share: each reference that is held carries the stored value
+  pub references : (xs ys zs : List CountingStep) → decode f ≡ good (ofCounting xs) → xs ≡ ys ++ zs → AllEnabled countingPermissions count.freshState ys
+      → countingDemand.Demand (past count.counting [] count.freshState ys)
+  -- "each finished flip, also a helped or cancelled one, is logged once, by a step after its beginning and not after its end, an unfinished one at most
+  -- once; each read shows the initial value turned once for every flip logged before it"
+  pub flips : (n : ℕ) (v : Bool) (xs ys zs : List FlagStep) → decode f ≡ good (ofFlag n v xs) → xs ≡ ys ++ zs → AllEnabled helping (emptyFlag n v) ys
+      → flagDemand.Demand (emptyFlag n v) v (past flag [] (emptyFlag n v) ys)
+  -- "A flip whose thread moves alone ends within five moves."
+  pub alone : (n : ℕ) (v : Bool) (xs ys zs : List FlagStep) → decode f ≡ good (ofFlag n v xs) → xs ≡ ys ++ zs → AllEnabled helping (emptyFlag n v) ys
+      → (k : ℕ) → k < n → flagTo.EndsWithin k 5 (after flag (emptyFlag n v) ys)

@@ -1,0 +1,3 @@
+pub mod Replay
+pub mod Sources
+pub mod Demands

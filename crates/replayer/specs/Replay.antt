@@ -1,0 +1,52 @@
+-- What any bytes are answered, with any two buffers: document 01's codes over the decoded file. Assumes nothing.
+use mathlib.Core.Bool.{cond}
+use mathlib.Core.List.{List}
+use Prim.Native.Nat.{ℕ, _+_}
+use lib.Dec.{ltb}
+use lib.ListN.{length}
+use Rattle.machine.specs.Rest.{Rested, untouched, restOf}
+use Rattle.schedule.specs.Limits as limit
+use Rattle.schedule.specs.Codes as code
+use Rattle.schedule.specs.Front.{faultCode, faultPlace}
+use Rattle.schedule.specs.Schedule.{Schedule, ofFlat, ofLock, ofCounting, ofFlag, Decoded, faulty, good, decode}
+use Rattle.schedule.specs.declared.steps.Params.{Params}
+use Rattle.schedule.specs.declared.steps.Params.the-variants.{Flat, Lock, Counting, Flag}
+use Rattle.flat.specs.Flat.{flat, emptyFlat}
+use Rattle.flat.specs.Image as flatBytes
+use Rattle.lock.specs.Lock.{lock, freshState}
+use Rattle.lock.specs.Image as lockBytes
+use Rattle.counting.specs.Counting as count
+use Rattle.counting.specs.Image as countingBytes
+use Rattle.flag.specs.Flag.{flag, emptyFlag}
+use Rattle.flag.specs.Image as flagBytes
+use Rattle.flat_run.specs.Run as flatRun
+use Rattle.lock_run.specs.Run as lockRun
+use Rattle.counting_run.specs.Run as countingRun
+use Rattle.flag_run.specs.Run as flagRun
+
+-- a schedule is replayed from the fresh machine of its kind and parameters; 8 where a buffer is too short for it
+abbrev pub replayed : Schedule → List ℕ → List ℕ → Rested
+replayed (ofFlat n xs) log image = restOf flat flatBytes.entryBytes flatBytes.imageBytes limit.entry limit.image (emptyFlat n) xs log image
+replayed (ofLock w t xs) log image = restOf lock lockBytes.entryBytes lockBytes.imageBytes limit.entry limit.image (freshState w t) xs log image
+replayed (ofCounting xs) log image =
+    restOf count.counting countingBytes.entryBytes countingBytes.imageBytes limit.entry limit.image count.freshState xs log image
+replayed (ofFlag n v xs) log image = restOf flag flagBytes.entryBytes flagBytes.imageBytes limit.entry limit.image (emptyFlag n v) xs log image
+
+-- a file with a fault is refused with its code and place, 1 to 7
+abbrev pub answered : Decoded → List ℕ → List ℕ → Rested
+answered (faulty x) log image = untouched (faultCode x) (faultPlace x) log image
+answered (good s) log image = replayed s log image
+
+unfoldable pub replayOf : List ℕ → List ℕ → List ℕ → Rested
+replayOf f log image = answered (decode f) log image
+
+-- an input over the largest file has a body over its limit
+abbrev pub inputOf : List ℕ → List ℕ → List ℕ → Rested
+inputOf f log image = cond (ltb (limit.body + 3) (length f)) (untouched code.body 0 log image) (replayOf f log image)
+
+-- the rest of a file behind its front, by its kind
+abbrev pub openedAs : List ℕ → Params → ℕ → List ℕ → List ℕ → Rested
+openedAs f (Flat n) from log image = flatRun.restOfFile f from n log image
+openedAs f (Lock w t) from log image = lockRun.restOfFile f from w t log image
+openedAs f Counting from log image = countingRun.restOfFile f from log image
+openedAs f (Flag n v) from log image = flagRun.restOfFile f from n v log image
