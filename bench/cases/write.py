@@ -9,6 +9,7 @@ import sys
 HERE = pathlib.Path(__file__).resolve().parent
 ROOT = HERE.parent.parent
 PROGRAM = ROOT / "crates" / "cases"
+LARGEST = 49155
 TABLE = ROOT / "crates" / "replayer" / "specs" / "Cases.antt"
 
 
@@ -62,8 +63,17 @@ def row(data):
 
 TABLE_HEAD = """-- The bench cases of document 01, P1 to P12, each a row: the file, the lengths of both buffers, the code and place answered, what is written to each. One
 -- claim over the table proves them: proofs/Tabled.antt. Written by bench/cases/write.py. Assumes nothing.
+use mathlib.Core.Path.{_≡_}
+use mathlib.Core.Bool.{Bool, true, _&&_}
 use mathlib.Core.List.{List, [], _∷_}
 use Prim.Native.Nat.{ℕ}
+use lib.Dec.{eqb}
+use lib.ListN.{length, replicate}
+use Rattle.rows.specs.Bytes.{alike}
+use Rattle.rows.specs.Stores.{over}
+use Rattle.rows.specs.Walk.{every}
+use Rattle.machine.specs.Rest.{Rested}
+use Rattle.replayer.specs.Replay.{replayOf}
 
 pub record Case : Type 0 where
   pub file : List ℕ
@@ -77,6 +87,17 @@ pub record Case : Type 0 where
 abbrev pub row : List ℕ → ℕ → ℕ → ℕ → ℕ → List ℕ → List ℕ → Case
 row file logRoom imageRoom code place log image =
     record { file = file; logRoom = logRoom; imageRoom = imageRoom; code = code; place = place; log = log; image = image }
+
+-- a buffer before: so many bytes 170
+abbrev pub before : ℕ → List ℕ
+before room = replicate room 170
+
+-- the answer is the row's: code, place, both lengths, and both whole buffers
+abbrev pub meets : Case → Bool
+meets c =
+    let a : Rested = replayOf (c .file) (before (c .logRoom)) (before (c .imageRoom)) in
+    eqb (a .code) (c .code) && (eqb (a .place) (c .place) && (eqb (a .logged) (length (c .log)) && (eqb (a .imaged) (length (c .image))
+    && (alike (a .log) (over (c .log) (before (c .logRoom))) && alike (a .image) (over (c .image) (before (c .imageRoom)))))))
 """
 
 
@@ -91,6 +112,15 @@ def table(cases):
         text += f"{name} =\n    row ({row(c['file'])}) {c['log']} {c['state']} {c['code']} {c['place']}\n"
         text += f"    ({row(c['wrote'])})\n    ({row(c['image'])})\n"
     text += "\nabbrev pub cases : List Case\ncases = " + " ∷ ".join(names) + " ∷ []\n"
+    text += "\nabbrev pub Tabled : Type 0\nTabled = every (λ i c. meets c) 0 cases ≡ true\n"
+    return text
+
+
+def expected(c):
+    """What the program writes of a case. Over the largest file an input is refused unread, whatever the replayer says of the bytes."""
+    text = f"{c['name']}\nverdict {c['code']} at {c['place']}\nlog {shown(c['wrote'])}\nstate {shown(c['image'])}\n"
+    if len(c["file"]) > LARGEST:
+        text += f"{c['name']} as input\nverdict 3 at 0\nlog -\nstate -\n"
     return text
 
 
@@ -101,8 +131,7 @@ def outputs(cases):
         head = c["log"].to_bytes(2, "big") + c["state"].to_bytes(2, "big")
         files[PROGRAM / "data" / c["name"]] = head + c["file"]
     files[PROGRAM / "args"] = "".join(c["name"] + "\n" for c in cases).encode()
-    files[PROGRAM / "stdout"] = "".join(
-        f"{c['name']}\nverdict {c['code']} at {c['place']}\nlog {shown(c['wrote'])}\nstate {shown(c['image'])}\n" for c in cases).encode()
+    files[PROGRAM / "stdout"] = "".join(expected(c) for c in cases).encode()
     files[TABLE] = table([c for c in cases if c["section"] == "bench cases"]).encode()
     return files
 

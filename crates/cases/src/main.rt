@@ -1,15 +1,18 @@
 // Replays each file that an argument names, and writes the name and the answer's three lines. In front of each file stand two lengths of two bytes:
-// those of the log buffer and of the state buffer that it is replayed with. A fourth line tells of a byte changed behind what the answer counts.
+// those of the log buffer and of the state buffer that it is replayed with. A file over the largest gets its answer as an input too. A line more tells
+// of a byte changed behind what the answer counts.
 use libc::STDOUT_FILENO;
 use lines::verdict;
 use schedule::answer::Answer;
 use schedule::limits;
 ghost use Prim.Native.Nat.{_≤_};
 
-// what both buffers hold before
+// what both buffers hold before, and the longest that a case asks for
 const PATTERN: u8 = 170;
-// a state buffer with bytes to spare
-const STATE: usize = 1024;
+
+const LOG: usize = 50000;
+
+const STATE: usize = 4096;
 
 fn main() {
     let n = os::arg_count();
@@ -38,42 +41,47 @@ fn one(i: usize) {
     let mut file = [0u8; 65539];
     let n = io::read_full(fd, &mut file);
     libc::close(fd);
+    let log_room = rows::get2(&head, 0) as usize;
+    let image_room = rows::get2(&head, 2) as usize;
     io::write_all(STDOUT_FILENO, &name[..length]);
     io::write_all(STDOUT_FILENO, b"\n");
-    replayed(&file[..n], rows::get2(&head, 0), rows::get2(&head, 2));
+    replayed(&file[..n], log_room, image_room, false);
+    if replayer::LARGEST < n {
+        io::write_all(STDOUT_FILENO, &name[..length]);
+        io::write_all(STDOUT_FILENO, b" as input\n");
+        replayed(&file[..n], log_room, image_room, true);
+    }
 }
 
-// The file with buffers of these lengths.
-fn replayed(file: &[u8], log_room: u16, image_room: u16) {
-    let mut log = [PATTERN; verdict::LOG];
+// The file with buffers of these lengths, as a file or as a program's input.
+fn replayed(file: &[u8], log_room: usize, image_room: usize, input: bool) {
+    let mut log = [PATTERN; LOG];
     let mut image = [PATTERN; STATE];
-    let l = least(log_room as usize, verdict::LOG);
-    let m = least(image_room as usize, STATE);
-    let a = replayer::replay_input(file, &mut log[..l], &mut image[..m]);
-    let place = a.place;
+    let l = least(log_room, LOG);
+    let m = least(image_room, STATE);
+    if input {
+        let a = replayer::replay_input(file, &mut log[..l], &mut image[..m]);
+        show(a, &log, &image);
+        return;
+    }
+    let a = replayer::replay(file, &mut log[..l], &mut image[..m]);
+    show(a, &log, &image);
+}
+
+fn show(a: Answer, log: &[u8], image: &[u8]) {
+    let l = least(log.len(), verdict::LOG);
+    let m = least(image.len(), limits::IMAGE);
     let logged = a.logged;
     let imaged = a.imaged;
-    let code = a.code;
-    let same = Answer {
-        place,
-        logged,
-        imaged,
-        code,
-    };
-    show(same, &log, &image);
-    if kept(&log, logged) {
-        if kept(&image, imaged) {
+    let mut text = [0u8; verdict::MOST];
+    let k = verdict::put_lines(&mut text, a, &log[..l], &image[..m]);
+    io::write_all(STDOUT_FILENO, &text[..k]);
+    if kept(log, logged) {
+        if kept(image, imaged) {
             return;
         }
     }
     io::write_all(STDOUT_FILENO, b"changed beyond\n");
-}
-
-fn show(a: Answer, log: &[u8], image: &[u8]) {
-    let shown = least(image.len(), limits::IMAGE);
-    let mut text = [0u8; verdict::MOST];
-    let k = verdict::put_lines(&mut text, a, log, &image[..shown]);
-    io::write_all(STDOUT_FILENO, &text[..k]);
 }
 
 // From a place on the buffer is as it was.

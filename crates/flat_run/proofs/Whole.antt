@@ -49,7 +49,7 @@ row-bytes f k even n xs =
     let few : length (take (inUse n) xs) ≤ limit.clients = simp length-take (omega (arith, few-used n)) in
     rw (pieces-even f k even (take (inUse n) xs)) (mul-le-mul-right k few)
 
-small : (q : State) → length (imageBytes q) ≤ limit.image
+pub small : (q : State) → length (imageBytes q) ≤ limit.image
 small q =
     let clients = pieces clientBytes (take (inUse (q .count)) (q .clients)) in
     let elems = pieces elemBytes (take (inUse (q .len)) (q .elems)) in

@@ -38,7 +38,7 @@ use Rattle.lock_run.proofs.Turns.{short}
 few : (width : ℕ) → inUse width ≤ limit.width
 few width = on (ltb width limit.width) (λ b. rw b (omega (arith, ltb-true width limit.width b))) (λ b. rw b (omega arith))
 
-small : (q : State) → length (imageBytes q) ≤ limit.image
+pub small : (q : State) → length (imageBytes q) ≤ limit.image
 small q =
     let cells = take (inUse (q .head .width)) (q .cells) in
     let long : length cells ≤ limit.width = simp length-take (omega (arith, few (q .head .width))) in

@@ -34,6 +34,10 @@ use Rattle.counting.specs.Counting as count
 use Rattle.counting.specs.Image as countingBytes
 use Rattle.flag.specs.Flag as flag
 use Rattle.flag.specs.Image as flagBytes
+use Rattle.flat_run.specs.Run as flatRun
+use Rattle.lock_run.specs.Run as lockRun
+use Rattle.counting_run.specs.Run as countingRun
+use Rattle.flag_run.specs.Run as flagRun
 use Rattle.replayer.specs.Replay.{replayed, answered, replayOf, inputOf, openedAs}
 
 -- ---------- parameters that passed the front are in their limits
@@ -134,8 +138,17 @@ module _ (f log image : List ℕ) where
 -- ---------- the ways out of `behind_front`: the kind is known
 
 module _ (f : List ℕ) (x : Params) (from : ℕ) (log image : List ℕ) (r : Answer) (log′ image′ : List ℕ) where
-  pub as-kind : (p : Params) → x ≡ p → Leaves (openedAs f p from log image) r log′ image′ → Leaves (openedAs f x from log image) r log′ image′
-  as-kind p e d = rw e d
+  pub as-flat : (n : ℕ) → x ≡ Flat n → Leaves (flatRun.restOfFile f from n log image) r log′ image′ → Leaves (openedAs f x from log image) r log′ image′
+  as-flat n e d = rw e d
+
+  pub as-lock : (w t : ℕ) → x ≡ Lock w t → Leaves (lockRun.restOfFile f from w t log image) r log′ image′ → Leaves (openedAs f x from log image) r log′ image′
+  as-lock w t e d = rw e d
+
+  pub as-counting : x ≡ Counting → Leaves (countingRun.restOfFile f from log image) r log′ image′ → Leaves (openedAs f x from log image) r log′ image′
+  as-counting e d = rw e d
+
+  pub as-flag : (n : ℕ) (v : Bool) → x ≡ Flag n v → Leaves (flagRun.restOfFile f from n v log image) r log′ image′ → Leaves (openedAs f x from log image) r log′ image′
+  as-flag n v e d = rw e d
 
 -- ---------- and of `replay_input`
 

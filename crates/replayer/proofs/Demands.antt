@@ -50,10 +50,14 @@ use Rattle.flag.specs.Refined as flagTo
 use Rattle.flag.specs.Image as flagBytes
 use Rattle.flag.proofs.Demands as flagProved
 use Rattle.flag.proofs.Refines as flagRefined
-use Rattle.flat_run.proofs.Turns as flatRun
-use Rattle.lock_run.proofs.Turns as lockRun
-use Rattle.counting_run.proofs.Turns as countingRun
-use Rattle.flag_run.proofs.Turns as flagRun
+use Rattle.flat_run.proofs.Turns as flatTurns
+use Rattle.flat_run.proofs.Whole as flatWhole
+use Rattle.lock_run.proofs.Turns as lockTurns
+use Rattle.lock_run.proofs.Whole as lockWhole
+use Rattle.counting_run.proofs.Turns as countingTurns
+use Rattle.counting_run.proofs.Whole as countingWhole
+use Rattle.flag_run.proofs.Turns as flagTurns
+use Rattle.flag_run.proofs.Whole as flagWhole
 use Rattle.replayer.specs.Replay.{replayed, answered, replayOf}
 use Rattle.replayer.specs.Sources.{flatCombine, distRwLock, countingPermissions, helping}
 use Rattle.replayer.specs.Demands.{steps#, Room, Demand1, Demand2, Demand3}
@@ -75,11 +79,11 @@ module _ (log image : List ℕ) where
   fault-keeps Surplus = untouched-keeps code.surplus limit.steps log image (omega arith) (omega arith)
 
   schedule-keeps : (s : Schedule) → Keeps log image (replayed s log image)
-  schedule-keeps (ofFlat n xs) = rest-keeps flat flatBytes.entryBytes flatBytes.imageBytes (emptyFlat n) xs log image flat-codes flatRun.short flatRun.small
-  schedule-keeps (ofLock w t xs) = rest-keeps lock lockBytes.entryBytes lockBytes.imageBytes (freshState w t) xs log image lock-codes lockRun.short lockRun.small
+  schedule-keeps (ofFlat n xs) = rest-keeps flat flatBytes.entryBytes flatBytes.imageBytes (emptyFlat n) xs log image flat-codes flatTurns.short flatWhole.small
+  schedule-keeps (ofLock w t xs) = rest-keeps lock lockBytes.entryBytes lockBytes.imageBytes (freshState w t) xs log image lock-codes lockTurns.short lockWhole.small
   schedule-keeps (ofCounting xs) =
-      rest-keeps count.counting countingBytes.entryBytes countingBytes.imageBytes count.freshState xs log image counting-codes countingRun.short countingRun.small
-  schedule-keeps (ofFlag n v xs) = rest-keeps flag flagBytes.entryBytes flagBytes.imageBytes (emptyFlag n v) xs log image flag-codes flagRun.short flagRun.small
+      rest-keeps count.counting countingBytes.entryBytes countingBytes.imageBytes count.freshState xs log image counting-codes countingTurns.short countingWhole.small
+  schedule-keeps (ofFlag n v xs) = rest-keeps flag flagBytes.entryBytes flagBytes.imageBytes (emptyFlag n v) xs log image flag-codes flagTurns.short flagWhole.small
 
   answered-keeps : (d : Decoded) → Keeps log image (answered d log image)
   answered-keeps (faulty x) = fault-keeps x

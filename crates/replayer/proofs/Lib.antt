@@ -1,6 +1,7 @@
 -- The proofs of the replayer, in reading order. Assumes nothing.
 pub mod Behind
 pub mod Rooms
-pub mod Kinds4
+pub mod Four
 pub mod Demands
+pub mod Tabled
 pub mod Settled

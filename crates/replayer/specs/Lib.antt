@@ -1,3 +1,4 @@
 pub mod Replay
+pub mod Cases
 pub mod Sources
 pub mod Demands

@@ -1,0 +1,54 @@
+-- `replayer::replay` meets its contract: a fault of the front is answered, and else the rest of the file. Assumes nothing.
+use borrow.Author.Needs.{needs}
+use Rattle.replayer.proofs.Behind.{faulty-answered, open-answered}
+use Rattle.replayer.proofs.replay.Statement.{statement}
+use Rattle.replayer.proofs.replay.Tie as tie
+
+front-requires : tie.Need-front-requires
+front-requires c κs = search needs
+
+enum-known-f : tie.Need-enum-known-f
+enum-known-f c = search needs
+
+code-requires : tie.Need-code-requires
+code-requires c κs = search needs
+
+place-requires : tie.Need-place-requires
+place-requires c κs = search needs
+
+refused-requires : tie.Need-refused-requires
+refused-requires c κs = search needs
+
+enum-known-params : tie.Need-enum-known-params
+enum-known-params c = search needs
+
+behind-front-requires : tie.Need-behind-front-requires
+behind-front-requires c κs = search needs
+
+returns : tie.Need-returns
+returns c = search faulty-answered
+
+same-length : tie.Need-same-length
+same-length c = search needs
+
+same-length-2 : tie.Need-same-length-2
+same-length-2 c = search needs
+
+returns-2 : tie.Need-returns-2
+returns-2 c = search open-answered
+
+pub replay-spec : {M : Type 1} → statement M
+replay-spec =
+    tie.close
+    (tie.spec
+    front-requires
+    enum-known-f
+    code-requires
+    place-requires
+    refused-requires
+    enum-known-params
+    behind-front-requires
+    returns
+    same-length
+    same-length-2
+    returns-2)
