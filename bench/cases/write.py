@@ -37,6 +37,9 @@ def read_cases():
         fields = dict(line.split(" ", 1) for line in lines if line and not line.startswith("#"))
         if not fields:
             continue
+        # `image as NAME`: the very image of an earlier case
+        same = re.fullmatch(r"as (\w+)", fields["image"])
+        image = next(c["image"] for c in cases if c["name"] == same[1]) if same else unhex(fields["image"])
         code, place = re.fullmatch(r"(\d+) at (\d+)", fields["verdict"]).groups()
         cases.append({
             "section": section,
@@ -48,7 +51,8 @@ def read_cases():
             "code": int(code),
             "place": int(place),
             "wrote": unhex(fields["wrote"]),
-            "image": unhex(fields["image"]),
+            "image": image,
+            "same": same and same[1],
         })
     return cases
 
@@ -105,12 +109,14 @@ def table(cases):
     text = TABLE_HEAD
     names = []
     for c in cases:
-        name = c["name"]
+        # in the table's language an underscore is a place for an argument
+        name = c["name"].replace("_", "-")
         names.append(name)
         text += f"\n-- {c['says']}\n"
         text += f"abbrev pub {name} : Case\n"
         text += f"{name} =\n    row ({row(c['file'])}) {c['log']} {c['state']} {c['code']} {c['place']}\n"
-        text += f"    ({row(c['wrote'])})\n    ({row(c['image'])})\n"
+        image = f"{c['same']} .image" if c["same"] else row(c["image"])
+        text += f"    ({row(c['wrote'])})\n    ({image})\n"
     text += "\nabbrev pub cases : List Case\ncases = " + " ∷ ".join(names) + " ∷ []\n"
     text += "\nabbrev pub Tabled : Type 0\nTabled = every (λ i c. meets c) 0 cases ≡ true\n"
     return text

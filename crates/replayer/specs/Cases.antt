@@ -58,29 +58,29 @@ p01c =
     (0 ∷ 0 ∷ 0 ∷ 0 ∷ 0 ∷ [])
 
 -- a lock of width 0 is outside the limits
-abbrev pub p02_width_0 : Case
-p02_width_0 =
+abbrev pub p02-width-0 : Case
+p02-width-0 =
     row (1 ∷ 0 ∷ 6 ∷ 2 ∷ 0 ∷ 0 ∷ 0 ∷ 0 ∷ 7 ∷ []) 3 515 5 0
     ([])
     ([])
 
 -- the least width, no steps: the fresh lock with one cell
-abbrev pub p02_width_1 : Case
-p02_width_1 =
+abbrev pub p02-width-1 : Case
+p02-width-1 =
     row (1 ∷ 0 ∷ 6 ∷ 2 ∷ 1 ∷ 0 ∷ 0 ∷ 0 ∷ 7 ∷ []) 3 515 0 0
     ([])
     (0 ∷ 1 ∷ 0 ∷ 0 ∷ 0 ∷ 7 ∷ 0 ∷ 0 ∷ 0 ∷ 0 ∷ 0 ∷ 0 ∷ [])
 
 -- the greatest width, no steps: the fresh lock with sixteen cells
-abbrev pub p02_width_16 : Case
-p02_width_16 =
+abbrev pub p02-width-16 : Case
+p02-width-16 =
     row (1 ∷ 0 ∷ 6 ∷ 2 ∷ 16 ∷ 0 ∷ 0 ∷ 0 ∷ 7 ∷ []) 3 515 0 0
     ([])
     (0 ∷ 1 ∷ 0 ∷ 0 ∷ 0 ∷ 7 ∷ 0 ∷ 0 ∷ 0 ∷ 0 ∷ 0 ∷ 0 ∷ 0 ∷ 0 ∷ 0 ∷ 0 ∷ 0 ∷ 0 ∷ 0 ∷ 0 ∷ 0 ∷ 0 ∷ 0 ∷ 0 ∷ 0 ∷ 0 ∷ 0 ∷ 0 ∷ 0 ∷ 0 ∷ 0 ∷ 0 ∷ 0 ∷ 0 ∷ 0 ∷ 0 ∷ 0 ∷ 0 ∷ 0 ∷ 0 ∷ 0 ∷ 0 ∷ 0 ∷ 0 ∷ 0 ∷ 0 ∷ 0 ∷ 0 ∷ 0 ∷ 0 ∷ 0 ∷ 0 ∷ 0 ∷ 0 ∷ 0 ∷ 0 ∷ 0 ∷ [])
 
 -- a lock of width 17 is outside the limits
-abbrev pub p02_width_17 : Case
-p02_width_17 =
+abbrev pub p02-width-17 : Case
+p02-width-17 =
     row (1 ∷ 0 ∷ 6 ∷ 2 ∷ 17 ∷ 0 ∷ 0 ∷ 0 ∷ 7 ∷ []) 3 515 5 0
     ([])
     ([])
@@ -181,10 +181,10 @@ abbrev pub p12b : Case
 p12b =
     row (1 ∷ 0 ∷ 42 ∷ 4 ∷ 2 ∷ 0 ∷ 2 ∷ 1 ∷ 0 ∷ 2 ∷ 2 ∷ 0 ∷ 2 ∷ 2 ∷ 0 ∷ 2 ∷ 1 ∷ 1 ∷ 2 ∷ 2 ∷ 1 ∷ 2 ∷ 2 ∷ 1 ∷ 2 ∷ 2 ∷ 1 ∷ 2 ∷ 2 ∷ 0 ∷ 2 ∷ 2 ∷ 0 ∷ 2 ∷ 2 ∷ 0 ∷ 2 ∷ 1 ∷ 1 ∷ 2 ∷ 2 ∷ 1 ∷ 2 ∷ 2 ∷ 1 ∷ []) 133 515 0 13
     (2 ∷ 1 ∷ 1 ∷ 2 ∷ 1 ∷ 1 ∷ [])
-    (0 ∷ 0 ∷ 1 ∷ 0 ∷ [])
+    (p12a .image)
 
 abbrev pub cases : List Case
-cases = p01a ∷ p01b ∷ p01c ∷ p02_width_0 ∷ p02_width_1 ∷ p02_width_16 ∷ p02_width_17 ∷ p03 ∷ p04 ∷ p05 ∷ p06 ∷ p07a ∷ p07b ∷ p08a ∷ p08b ∷ p09 ∷ p10a ∷ p10b ∷ p11 ∷ p12a ∷ p12b ∷ []
+cases = p01a ∷ p01b ∷ p01c ∷ p02-width-0 ∷ p02-width-1 ∷ p02-width-16 ∷ p02-width-17 ∷ p03 ∷ p04 ∷ p05 ∷ p06 ∷ p07a ∷ p07b ∷ p08a ∷ p08b ∷ p09 ∷ p10a ∷ p10b ∷ p11 ∷ p12a ∷ p12b ∷ []
 
 abbrev pub Tabled : Type 0
 Tabled = every (λ i c. meets c) 0 cases ≡ true
