@@ -5,7 +5,7 @@ use libc::STDOUT_FILENO;
 use lines::verdict;
 use schedule::answer::Answer;
 use schedule::limits;
-ghost use Prim.Native.Nat.{_≤_};
+ghost use Rattle.lines.specs.Lines.{Counts};
 
 // what both buffers hold before, and the longest that a case asks for
 const PATTERN: u8 = 170;
@@ -43,34 +43,39 @@ fn one(i: usize) {
     libc::close(fd);
     let log_room = rows::get2(&head, 0) as usize;
     let image_room = rows::get2(&head, 2) as usize;
+    let mut log = [PATTERN; LOG];
+    let mut image = [PATTERN; STATE];
     io::write_all(STDOUT_FILENO, &name[..length]);
     io::write_all(STDOUT_FILENO, b"\n");
-    replayed(&file[..n], log_room, image_room, false);
+    as_file(&file[..n], &mut log, log_room, &mut image, image_room);
     if replayer::LARGEST < n {
+        let mut log = [PATTERN; LOG];
+        let mut image = [PATTERN; STATE];
         io::write_all(STDOUT_FILENO, &name[..length]);
         io::write_all(STDOUT_FILENO, b" as input\n");
-        replayed(&file[..n], log_room, image_room, true);
+        as_input(&file[..n], &mut log, log_room, &mut image, image_room);
     }
 }
 
-// The file with buffers of these lengths, as a file or as a program's input.
-fn replayed(file: &[u8], log_room: usize, image_room: usize, input: bool) {
-    let mut log = [PATTERN; LOG];
-    let mut image = [PATTERN; STATE];
-    let l = least(log_room, LOG);
-    let m = least(image_room, STATE);
-    if input {
-        let a = replayer::replay_input(file, &mut log[..l], &mut image[..m]);
-        show(a, &log, &image);
-        return;
-    }
+// The file with buffers of these lengths.
+fn as_file(file: &[u8], log: &mut [u8], log_room: usize, image: &mut [u8], image_room: usize) {
+    let l = at_most(log_room, log);
+    let m = at_most(image_room, image);
     let a = replayer::replay(file, &mut log[..l], &mut image[..m]);
-    show(a, &log, &image);
+    show(a, log, image);
+}
+
+// The same bytes as a program's input.
+fn as_input(file: &[u8], log: &mut [u8], log_room: usize, image: &mut [u8], image_room: usize) {
+    let l = at_most(log_room, log);
+    let m = at_most(image_room, image);
+    let a = replayer::replay_input(file, &mut log[..l], &mut image[..m]);
+    show(a, log, image);
 }
 
 fn show(a: Answer, log: &[u8], image: &[u8]) {
-    let l = least(log.len(), verdict::LOG);
-    let m = least(image.len(), limits::IMAGE);
+    let l = at_most(verdict::LOG, log);
+    let m = at_most(limits::IMAGE, image);
     let logged = a.logged;
     let imaged = a.imaged;
     let mut text = [0u8; verdict::MOST];
@@ -96,11 +101,12 @@ fn kept(buffer: &[u8], from: usize) -> bool {
     true
 }
 
-fn least(a: usize, b: usize) -> usize
-    ensures { λ r. ⌜ r ≤ b ⌝ }
+// n, or the buffer's length where that is less.
+fn at_most(n: usize, buffer: &[u8]) -> usize
+    ensures { λ r. ⌜ Counts r (now (buffer .entry)) ⌝ }
 {
-    if a < b {
-        return a;
+    if n < buffer.len() {
+        return n;
     }
-    b
+    buffer.len()
 }

@@ -1,5 +1,5 @@
 -- The three lines of an answer: document 01, "The program reads standard input and writes three lines". Assumes nothing.
-use Prim.Native.Nat.{ℕ, _+_, _*_}
+use Prim.Native.Nat.{ℕ, _+_, _*_, _≤_}
 use mathlib.Core.Path.{_≡_}
 use mathlib.Core.Bool.{cond}
 use mathlib.Core.List.{List, [], _∷_, _++_}
@@ -27,11 +27,21 @@ stateWord = 10 ∷ 115 ∷ 116 ∷ 97 ∷ 116 ∷ 101 ∷ 32 ∷ []
 abbrev pub lineEnd : List ℕ
 lineEnd = 10 ∷ []
 
--- verdict C at P; the log and the state in hexadecimal digits, `-` where nothing was written
+-- verdict C at P
+abbrev pub verdictLine : ℕ → ℕ → List ℕ
+verdictLine code place = verdictWord ++ (decimal code ++ (atWord ++ decimal place))
+
+-- the first n bytes in hexadecimal digits, `-` where nothing was written, behind the line's name
+abbrev pub rowLine : List ℕ → ℕ → List ℕ → List ℕ
+rowLine name n bytes = name ++ shown (take n bytes)
+
 abbrev pub linesOf : Answer → List ℕ → List ℕ → List ℕ
 linesOf a log image =
-    verdictWord ++ (decimal (a .code) ++ (atWord ++ (decimal (a .place)
-    ++ (logWord ++ (shown (take (a .logged) log) ++ (stateWord ++ (shown (take (a .imaged) image) ++ lineEnd)))))))
+    verdictLine (a .code) (a .place) ++ (rowLine logWord (a .logged) log ++ (rowLine stateWord (a .imaged) image ++ lineEnd))
+
+-- the most bytes of a first line: its words, a code of 3 digits and a place of 20
+abbrev pub longestVerdict : ℕ
+longestVerdict = 35
 
 -- the longest log that a file has, and the most bytes that the lines can take
 abbrev pub longestLog : ℕ
@@ -50,3 +60,7 @@ linesIn room a log image =
 pub record Written (out : List ℕ) (a : Answer) (log image : List ℕ) (r : ℕ) (out′ : List ℕ) : Type 0 where
   pub count : r ≡ length (linesIn (length out) a log image)
   pub bytes : out′ ≡ over (linesIn (length out) a log image) out
+
+-- r counts bytes at the start of a buffer. The second part follows from the first; both stand so that `&buffer[..r]` needs no proof of its caller's
+abbrev pub Counts : ℕ → List ℕ → Type 0
+Counts r buffer = (r ≤ length buffer) × (r ≡ length (take r buffer))

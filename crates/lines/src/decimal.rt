@@ -38,11 +38,11 @@ fn put_digits(out: &mut [u8], at: usize, n: usize, k: usize) -> usize
     requires { ⌜ at + k ≤ length (now out) ⌝ }
     ensures { λ r. ⌜ Laid (now (out .entry)) at (digits k n) r (now (out .exit)) ⌝ }
 {
-    let mut i = k;
+    let mut i: usize = 0;
     let mut rest = n;
-    while 0 < i {
-        i -= 1;
-        out[at + i] = (48 + rest % 10) as u8;
+    while i < k {
+        i += 1;
+        out[at + (k - i)] = (48 + rest % 10) as u8;
         rest /= 10;
     }
     at + k

@@ -2,7 +2,7 @@
 ghost use mathlib.Core.Path.{_≡_};
 ghost use mathlib.Core.Bool.{cond};
 ghost use lib.Dec.{ltb};
-ghost use Prim.Native.Nat.{_+_, _*_, _≤_, _<_};
+ghost use Prim.Native.Nat.{_+_, _≤_, _<_};
 ghost use lib.ListN.{length, take};
 ghost use Rattle.rows.specs.Stores.{Laid};
 ghost use Rattle.rows.specs.Walk.{pieces};
@@ -13,16 +13,10 @@ pub fn put_shown(out: &mut [u8], at: usize, bytes: &[u8], n: usize) -> usize
     ensures { λ r. ⌜ Laid (now (out .entry)) at (shown (take n (now (bytes .entry)))) r (now (out .exit)) ⌝ }
 {
     let m = least(n, bytes.len());
-    if m == 0 {
-        return rows::put1(out, at, 45);
+    if 0 < m {
+        return put_hex(out, at, bytes, m);
     }
-    if out.len() < at {
-        return at;
-    }
-    if (out.len() - at) / 2 < m {
-        return at;
-    }
-    put_hex(out, at, bytes, m)
+    rows::put1(out, at, 45)
 }
 
 fn least(a: usize, b: usize) -> usize
@@ -34,11 +28,17 @@ fn least(a: usize, b: usize) -> usize
     b
 }
 
+// The digits of the first m bytes, all or nothing.
 fn put_hex(out: &mut [u8], at: usize, bytes: &[u8], m: usize) -> usize
     requires { ⌜ m ≤ length (now bytes) ⌝ }
-    requires { ⌜ at + 2 * m ≤ length (now out) ⌝ }
     ensures { λ r. ⌜ Laid (now (out .entry)) at (pieces hexByte (take m (now (bytes .entry)))) r (now (out .exit)) ⌝ }
 {
+    if out.len() < at {
+        return at;
+    }
+    if (out.len() - at) / 2 < m {
+        return at;
+    }
     let mut i: usize = 0;
     let mut p = at;
     while i < m {
