@@ -4,4 +4,5 @@ pub mod Rooms
 pub mod Four
 pub mod Demands
 pub mod Tabled
+pub mod Refuted
 pub mod Settled

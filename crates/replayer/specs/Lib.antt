@@ -1,4 +1,5 @@
 pub mod Replay
 pub mod Cases
+pub mod Imposters
 pub mod Sources
 pub mod Demands
