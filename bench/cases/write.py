@@ -1,6 +1,6 @@
 #!/usr/bin/env python3
-"""Writes what the cases of cases.txt become: the files, arguments and expected output of the program `cases`, and the table of bench cases that
-crates/replayer proves. With --check it writes nothing and fails where something committed differs."""
+"""Writes what the cases of cases.txt become: the files, arguments and expected output of the program `cases`, the table of bench cases that
+crates/replayer proves, and the schedules of examples/. With --check it writes nothing and fails where something committed differs."""
 
 import pathlib
 import re
@@ -9,6 +9,7 @@ import sys
 HERE = pathlib.Path(__file__).resolve().parent
 ROOT = HERE.parent.parent
 PROGRAM = ROOT / "crates" / "cases"
+EXAMPLES = ROOT / "examples"
 LARGEST = 49155
 TABLE = ROOT / "crates" / "replayer" / "specs" / "Cases.antt"
 
@@ -138,6 +139,9 @@ def outputs(cases):
         files[PROGRAM / "data" / c["name"]] = head + c["file"]
     files[PROGRAM / "args"] = "".join(c["name"] + "\n" for c in cases).encode()
     files[PROGRAM / "stdout"] = "".join(expected(c) for c in cases).encode()
+    for c in cases:
+        if c["section"] == "examples":
+            files[EXAMPLES / (c["name"].removeprefix("example_") + ".schedule")] = c["file"]
     files[TABLE] = table([c for c in cases if c["section"] == "bench cases"]).encode()
     return files
 
