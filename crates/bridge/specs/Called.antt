@@ -9,6 +9,7 @@ use Rattle.rows.specs.Bytes.{big}
 use Rattle.rows.specs.Stores.{over}
 use Rattle.machine.specs.Rest.{Rested}
 use Rattle.schedule.specs.Codes as code
+use Rattle.single_call.specs.Call.{askedBy, leftBy}
 use Rattle.replayer.specs.Replay.{replayOf}
 
 -- three numbers of four bytes each
@@ -37,4 +38,25 @@ pub record ReplayLeaves (o : Replayed) (r : ℕ) (log′ image′ told′ : List
   pub code : r ≡ o .code
   pub log : log′ ≡ o .log
   pub image : image′ ≡ o .image
+  pub told : told′ ≡ o .told
+
+-- ---------- a single step on a made-up state
+
+pub record Stepped : Type 0 where
+  pub code : ℕ
+  pub state : List ℕ
+  pub log : List ℕ
+  pub told : List ℕ
+
+-- the place, which is always 0, and the entry's length
+unfoldable pub singleCalled : ℕ → List ℕ → List ℕ → List ℕ → List ℕ → Stepped
+singleCalled kind state step log told =
+    cond (ltb (length told) 8) (record { code = code.room; state = state; log = log; told = told })
+    (let o = leftBy kind state (askedBy step) log in
+    record { code = o .code; state = o .state; log = over (o .entry) log; told = over (big 4 0 ++ big 4 (length (o .entry))) told })
+
+pub record SingleLeaves (o : Stepped) (r : ℕ) (state′ log′ told′ : List ℕ) : Type 0 where
+  pub code : r ≡ o .code
+  pub state : state′ ≡ o .state
+  pub log : log′ ≡ o .log
   pub told : told′ ≡ o .told

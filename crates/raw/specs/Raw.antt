@@ -23,6 +23,10 @@ byteAt raw at = numberAt raw at 1
 abbrev pub setAt : List ℕ → ℕ → Bool
 setAt raw at = not (eqb (byteAt raw at) 0)
 
+-- four flags, one behind the other
+abbrev pub flagsBytes : Bool → Bool → Bool → Bool → List ℕ
+flagsBytes a b c d = boolByte a ∷ boolByte b ∷ boolByte c ∷ boolByte d ∷ []
+
 -- n entries, the first of them number i
 abbrev pub rowFrom : {A : Type 0} → (ℕ → A) → ℕ → ℕ → List A
 rowFrom entry i zero = []
@@ -63,9 +67,7 @@ abbrev pub cellBytes : Cell → List ℕ
 cellBytes c = c .count ∷ c .pending ∷ c .guards ∷ []
 
 abbrev pub headBytes : Head → List ℕ
-headBytes h =
-    big 4 (h .t)
-    ++ (h .width ∷ h .cursor ∷ boolByte (h .locked) ∷ boolByte (h .stored) ∷ boolByte (h .pending) ∷ boolByte (h .guard) ∷ [])
+headBytes h = big 4 (h .t) ++ (h .width ∷ h .cursor ∷ flagsBytes (h .locked) (h .stored) (h .pending) (h .guard))
 
 abbrev pub lockBytes : lock.State → List ℕ
 lockBytes s = headBytes (s .head) ++ pieces cellBytes (s .cells)
@@ -118,14 +120,13 @@ flatFrom raw =
     }
 
 abbrev pub clientBytes : Client → List ℕ
-clientBytes c =
-    big 4 (c .rid) ++ (big 4 (c .req) ++ (big 4 (c .resp)
-    ++ (boolByte (c .waiting) ∷ boolByte (c .asked) ∷ boolByte (c .told) ∷ boolByte (c .slot) ∷ [])))
+clientBytes c = big 4 (c .rid) ++ (big 4 (c .req) ++ (big 4 (c .resp) ++ flagsBytes (c .waiting) (c .asked) (c .told) (c .slot)))
 
 abbrev pub elemBytes : Elem → List ℕ
 elemBytes e = big 4 (e .rid) ++ (boolByte (e .present) ∷ [])
 
+abbrev pub combinerBytes : flat.State → List ℕ
+combinerBytes s = s .count ∷ s .len ∷ s .idx ∷ boolByte (s .responding) ∷ []
+
 abbrev pub flatBytes : flat.State → List ℕ
-flatBytes s =
-    pieces clientBytes (s .clients) ++ (pieces elemBytes (s .elems)
-    ++ (s .count ∷ s .len ∷ s .idx ∷ boolByte (s .responding) ∷ []))
+flatBytes s = pieces clientBytes (s .clients) ++ (pieces elemBytes (s .elems) ++ combinerBytes s)

@@ -1,4 +1,5 @@
 // The counting machine: t, count, refs, present.
+use super::flags;
 use counting::state::State;
 ghost use mathlib.Core.Path.{_≡_};
 ghost use Rattle.rows.specs.Stores.{Laid};
@@ -14,7 +15,7 @@ pub fn counting_from(raw: &[u8]) -> State
         t: rows::get4(raw, 0),
         count: rows::get1(raw, 4),
         refs: rows::get1(raw, 5),
-        present: rows::get1(raw, 6) != 0,
+        present: flags::set_at(raw, 6),
     }
 }
 

@@ -1,4 +1,5 @@
 // The flag: threads, pending, value, then each thread's place.
+use super::flags;
 use flag::state::State;
 use schedule::limits;
 ghost use mathlib.Core.Path.{_≡_};
@@ -16,7 +17,7 @@ pub fn flag_from(raw: &[u8]) -> State
     State {
         threads: rows::get1(raw, 0),
         pending: rows::get1(raw, 1),
-        value: rows::get1(raw, 2) != 0,
+        value: flags::set_at(raw, 2),
         places,
     }
 }
@@ -25,10 +26,10 @@ fn places_from(raw: &[u8]) -> [u8; limits::THREADS]
     ensures { λ r. ⌜ r ≡ placesFrom (now (raw .entry)) ⌝ }
 {
     let mut places = [0u8; limits::THREADS];
-    let mut i: usize = 0;
-    while i < limits::THREADS {
-        places[i] = rows::get1(raw, HEAD + i);
-        i += 1;
+    let mut k: usize = 0;
+    while k < limits::THREADS {
+        places[k] = rows::get1(raw, HEAD + k);
+        k += 1;
     }
     places
 }

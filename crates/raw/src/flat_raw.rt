@@ -1,4 +1,5 @@
 // The flat combiner: each client's rid, req, resp, waiting, asked, told and slot; each element's rid and present; count, len, idx, responding.
+use super::flags;
 use flat::state::Client;
 use flat::state::Elem;
 use flat::state::State;
@@ -9,7 +10,7 @@ ghost use lib.ListN.{length};
 ghost use Rattle.rows.specs.Stores.{Laid};
 ghost use Rattle.rows.specs.Walk.{pieces};
 ghost use Rattle.schedule.specs.Limits as limit;
-ghost use Rattle.raw.specs.Raw.{clientAt, clientsFrom, elemAt, elemsFrom, flatFrom, clientBytes, elemBytes, flatBytes};
+ghost use Rattle.raw.specs.Raw.{clientAt, clientsFrom, elemAt, elemsFrom, flatFrom, clientBytes, elemBytes, combinerBytes, flatBytes};
 
 pub const CLIENT: usize = 16;
 
@@ -32,20 +33,28 @@ pub fn flat_from(raw: &[u8]) -> State
         count: rows::get1(raw, COMBINER),
         len: rows::get1(raw, COMBINER + 1),
         idx: rows::get1(raw, COMBINER + 2),
-        responding: rows::get1(raw, COMBINER + 3) != 0,
+        responding: flags::set_at(raw, COMBINER + 3),
     }
 }
 
 fn clients_from(raw: &[u8]) -> [Client; limits::CLIENTS]
     ensures { λ r. ⌜ r ≡ clientsFrom (now (raw .entry)) ⌝ }
 {
-    let none = client_at(raw, 0);
+    let none = Client {
+        rid: 0,
+        req: 0,
+        resp: 0,
+        waiting: false,
+        asked: false,
+        told: false,
+        slot: false,
+    };
     let mut clients = [none; limits::CLIENTS];
-    let mut i: usize = 1;
-    while i < limits::CLIENTS {
-        let c = client_at(raw, CLIENT * i);
-        clients[i] = c;
-        i += 1;
+    let mut k: usize = 0;
+    while k < limits::CLIENTS {
+        let c = client_at(raw, CLIENT * k);
+        clients[k] = c;
+        k += 1;
     }
     clients
 }
@@ -58,23 +67,26 @@ fn client_at(raw: &[u8], at: usize) -> Client
         rid: rows::get4(raw, at),
         req: rows::get4(raw, at + 4),
         resp: rows::get4(raw, at + 8),
-        waiting: rows::get1(raw, at + 12) != 0,
-        asked: rows::get1(raw, at + 13) != 0,
-        told: rows::get1(raw, at + 14) != 0,
-        slot: rows::get1(raw, at + 15) != 0,
+        waiting: flags::set_at(raw, at + 12),
+        asked: flags::set_at(raw, at + 13),
+        told: flags::set_at(raw, at + 14),
+        slot: flags::set_at(raw, at + 15),
     }
 }
 
 fn elems_from(raw: &[u8]) -> [Elem; limits::CLIENTS]
     ensures { λ r. ⌜ r ≡ elemsFrom (now (raw .entry)) ⌝ }
 {
-    let none = elem_at(raw, ELEMS);
+    let none = Elem {
+        rid: 0,
+        present: false,
+    };
     let mut elems = [none; limits::CLIENTS];
-    let mut i: usize = 1;
-    while i < limits::CLIENTS {
-        let e = elem_at(raw, ELEMS + ELEM * i);
-        elems[i] = e;
-        i += 1;
+    let mut k: usize = 0;
+    while k < limits::CLIENTS {
+        let e = elem_at(raw, ELEMS + ELEM * k);
+        elems[k] = e;
+        k += 1;
     }
     elems
 }
@@ -85,7 +97,7 @@ fn elem_at(raw: &[u8], at: usize) -> Elem
 {
     Elem {
         rid: rows::get4(raw, at),
-        present: rows::get1(raw, at + 4) != 0,
+        present: flags::set_at(raw, at + 4),
     }
 }
 
@@ -99,10 +111,17 @@ pub fn put_flat(raw: &mut [u8], s: State) -> usize
     let elems = s.elems;
     let a = put_clients(raw, clients);
     let b = put_elems(raw, a, elems);
-    let c = rows::put1(raw, b, s.count);
-    let d = rows::put1(raw, c, s.len);
-    let e = rows::put1(raw, d, s.idx);
-    rows::put1(raw, e, s.responding as u8)
+    put_combiner(raw, b, s)
+}
+
+fn put_combiner(raw: &mut [u8], at: usize, s: State) -> usize
+    requires { ⌜ at + 4 ≤ length (now raw) ⌝ }
+    ensures { λ r. ⌜ Laid (now (raw .entry)) at (combinerBytes s) r (now (raw .exit)) ⌝ }
+{
+    let a = rows::put1(raw, at, s.count);
+    let b = rows::put1(raw, a, s.len);
+    let c = rows::put1(raw, b, s.idx);
+    rows::put1(raw, c, s.responding as u8)
 }
 
 fn put_clients(raw: &mut [u8], clients: [Client; limits::CLIENTS]) -> usize
@@ -126,10 +145,7 @@ fn put_client(raw: &mut [u8], at: usize, c: Client) -> usize
     let a = rows::put4(raw, at, c.rid);
     let b = rows::put4(raw, a, c.req);
     let d = rows::put4(raw, b, c.resp);
-    let e = rows::put1(raw, d, c.waiting as u8);
-    let f = rows::put1(raw, e, c.asked as u8);
-    let g = rows::put1(raw, f, c.told as u8);
-    rows::put1(raw, g, c.slot as u8)
+    flags::put_flags(raw, d, c.waiting, c.asked, c.told, c.slot)
 }
 
 fn put_elems(raw: &mut [u8], at: usize, elems: [Elem; limits::CLIENTS]) -> usize

@@ -1,4 +1,5 @@
 // The shift lock: t, width, cursor, locked, stored, pending, guard, then each cell's count, pending and guards.
+use super::flags;
 use lock::state::Cell;
 use lock::state::Head;
 use lock::state::State;
@@ -30,10 +31,10 @@ fn head_from(raw: &[u8]) -> Head
         t: rows::get4(raw, 0),
         width: rows::get1(raw, 4),
         cursor: rows::get1(raw, 5),
-        locked: rows::get1(raw, 6) != 0,
-        stored: rows::get1(raw, 7) != 0,
-        pending: rows::get1(raw, 8) != 0,
-        guard: rows::get1(raw, 9) != 0,
+        locked: flags::set_at(raw, 6),
+        stored: flags::set_at(raw, 7),
+        pending: flags::set_at(raw, 8),
+        guard: flags::set_at(raw, 9),
     }
 }
 
@@ -46,11 +47,11 @@ fn cells_from(raw: &[u8]) -> [Cell; limits::WIDTH]
         guards: 0,
     };
     let mut cells = [none; limits::WIDTH];
-    let mut i: usize = 0;
-    while i < limits::WIDTH {
-        let c = cell_at(raw, HEAD + 3 * i);
-        cells[i] = c;
-        i += 1;
+    let mut k: usize = 0;
+    while k < limits::WIDTH {
+        let c = cell_at(raw, HEAD + 3 * k);
+        cells[k] = c;
+        k += 1;
     }
     cells
 }
@@ -85,10 +86,7 @@ fn put_head(raw: &mut [u8], h: Head) -> usize
     let a = rows::put4(raw, 0, h.t);
     let b = rows::put1(raw, a, h.width);
     let c = rows::put1(raw, b, h.cursor);
-    let d = rows::put1(raw, c, h.locked as u8);
-    let e = rows::put1(raw, d, h.stored as u8);
-    let f = rows::put1(raw, e, h.pending as u8);
-    rows::put1(raw, f, h.guard as u8)
+    flags::put_flags(raw, c, h.locked, h.stored, h.pending, h.guard)
 }
 
 fn put_cells(raw: &mut [u8], at: usize, cells: [Cell; limits::WIDTH]) -> usize
