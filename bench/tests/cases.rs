@@ -1,4 +1,4 @@
-//! The bench cases of the paper, run on the twin.
+//! The bench cases of the scope, run on the twin.
 
 use bench::answer::Answer;
 use bench::twin::replay;

@@ -1,4 +1,4 @@
-//! The walk models against the twin: two hands, one paper.
+//! The walk models against the twin: two hands, one scope.
 
 use bench::gen::model::fresh;
 use bench::gen::rng::Rng;

@@ -1,4 +1,4 @@
-//! The codes, by the paper's numbers.
+//! The codes, by the scope's numbers.
 
 #[derive(Clone, Copy, Debug, PartialEq, Eq)]
 #[repr(u8)]

@@ -1,4 +1,4 @@
-//! The replayer in plain Rust, written from the paper and the four sources.
+//! The replayer in plain Rust, written from the scope and the four sources.
 //!
 //! This file holds the order of the codes; the bytes are in `schedule`, the
 //! transitions in one file a machine.
