@@ -9,7 +9,6 @@ use lib.ListN.{length}
 use Rattle.schedule.specs.Limits as limit
 use Rattle.schedule.specs.Reading.{measuredAt, Placed, broken, surplus, placed, and, placesFrom}
 use Rattle.schedule.specs.Counting.{counted, countedOf}
-use Rattle.schedule.specs.declared.lengths.Measured.{Measured}
 use Rattle.schedule.specs.declared.lengths.Measured.the-variants.{End, Broken, Whole}
 use Rattle.schedule.specs.declared.front.Fault.the-variants.{Step, Surplus}
 use Rattle.schedule.specs.declared.count.Counted.the-variants.{Faulty, Steps}
@@ -40,22 +39,22 @@ module _ (kind : ℕ) (f : List ℕ) (from : ℕ) where
       unfolding placesFrom
       ends-surplus h = let z : limit.steps - k ≡ 0 = omega arith in let e = u .rest in rw (z, lt-ltb at (length f) h) at e
 
-    module _ (more : k ≡ limit.steps → ⊥) (m : Measured) (told : m ≡ measuredAt kind f at) where
+    module _ (more : k ≡ limit.steps → ⊥) where
       one : limit.steps - k ≡ suc (limit.steps - (k + 1))
       one = omega (arith, u .below)
 
-      pub ends : m ≡ End → Steps k ≡ countedOf kind f from
+      pub ends : End ≡ measuredAt kind f at → Steps k ≡ countedOf kind f from
       unfolding placesFrom
-      ends e = rw (one, ← told, e, add-zero) at (u .rest)
+      ends e = rw (one, ← e, add-zero) at (u .rest)
 
-      pub ends-broken : m ≡ Broken → Faulty (Step k) ≡ countedOf kind f from
+      pub ends-broken : Broken ≡ measuredAt kind f at → Faulty (Step k) ≡ countedOf kind f from
       unfolding placesFrom
-      ends-broken e = rw (one, ← told, e) at (u .rest)
+      ends-broken e = rw (one, ← e) at (u .rest)
 
-      pub goes-on : (next : ℕ) → m ≡ Whole next → Underway next (k + 1)
+      pub goes-on : (next : ℕ) → Whole next ≡ measuredAt kind f at → Underway next (k + 1)
       unfolding placesFrom
       goes-on next e =
           record {
             below = omega (arith, u .below);
-            rest = one-more k at (placesFrom kind (limit.steps - (k + 1)) f next (k + 1)) ∙ (rw (one, ← told, e) at (u .rest));
+            rest = one-more k at (placesFrom kind (limit.steps - (k + 1)) f next (k + 1)) ∙ (rw (one, ← e) at (u .rest));
           }

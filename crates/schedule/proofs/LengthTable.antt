@@ -1,10 +1,10 @@
 -- The code's table of step lengths says what the widths say: one computed test over the whole table. Assumes nothing.
-use mathlib.Core.Path.{_≡_, refl}
-use mathlib.Core.Bool.{Bool, true}
+use mathlib.Core.Path.{_≡_, refl, _∙_}
+use mathlib.Core.Bool.{Bool, true, false}
 use mathlib.Core.List.{List, [], _∷_}
 use Prim.Native.Nat.{ℕ, _≤_, _<_}
 use native.Mathlib.Omega.{arith}
-use borrow.Author.Tests.{eqb-true, leb-true}
+use borrow.Author.Tests.{eqb-true, leb-true, leb-false}
 use lib.Dec.{eqb, leb}
 use lib.ListN.{length, getD, List·getD-eq-default}
 use Rattle.rows.specs.Walk.{every}
@@ -37,6 +37,11 @@ pub no-kind : (k t : ℕ) → 5 ≤ k → 0 ≡ lengthOf k t
 unfolding widthsOf widths
 no-kind k t h = rw (List·getD-eq-default widths [] h)
 
+-- and so the row of zeros is that of no kind
+pub no-row : (k t : ℕ) → 5 ≤ k → t < 9 → getD (getD lengths 0 []) t 0 ≡ lengthOf k t
+unfolding widthsOf widths
+no-row k t h l = in-table 0 t (omega arith) l ∙ no-kind k t h
+
 within : every (λ (k : ℕ) (row : List (List ℕ)). leb (length row) 9) 0 widths ≡ true
 unfolding widths
 within = refl
@@ -47,3 +52,12 @@ no-tag k t h l =
     let short : length (getD widths k []) ≤ 9 = leb-true _ _ (every-at (λ (k : ℕ) (row : List (List ℕ)). leb (length row) 9) [] widths within k h) in
     let past : length (getD widths k []) ≤ t = omega arith in
     rw (List·getD-eq-default (getD widths k []) [] past)
+
+-- so a tag past the table has no length, whatever the kind
+module _ (k t : ℕ) (l : 9 ≤ t) where
+  by-kind : (b : Bool) → leb 5 k ≡ b → 0 ≡ lengthOf k t
+  by-kind true e = no-kind k t (leb-true 5 k e)
+  by-kind false e = no-tag k t (leb-false 5 k e) l
+
+  pub no-length : 0 ≡ lengthOf k t
+  no-length = by-kind (leb 5 k) refl

@@ -3,6 +3,7 @@
 pub mod LengthTable
 pub mod MeasureTests
 pub mod PastEnd
+pub mod Tags
 pub mod CountLoop
 -- what each answer says of the file's bytes, and that the bytes settle it
 pub mod MeasureSays

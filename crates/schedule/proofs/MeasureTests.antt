@@ -5,8 +5,9 @@ use Prim.Native.Nat.{ℕ, _+_, _-_, _≤_, _<_}
 use native.Mathlib.Omega.{arith}
 use borrow.Author.Tests.{le-leb, lt-leb, lt-ltb, le-ltb, eq-eqb, ne-eqb}
 use lib.ListN.{length, getD}
-use Rattle.schedule.specs.Widths.{lengthOf}
+use Rattle.schedule.specs.Widths.{lengthOf, RowOf}
 use Rattle.schedule.specs.Reading.{measuredAt}
+use Rattle.schedule.proofs.LengthTable.{no-length}
 use Rattle.schedule.specs.declared.lengths.Measured.the-variants.{End, Broken, Whole}
 
 module _ (kind : ℕ) (f : List ℕ) (at : ℕ) where
@@ -36,3 +37,15 @@ module _ (kind : ℕ) (f : List ℕ) (at : ℕ) where
         at-other e =
             let p : at + 1 + getD f at 0 ≤ length f = omega arith in
             rw (lt-leb _ _ inside, ne-eqb _ _ some, le-ltb _ _ p, ne-eqb _ _ (λ q. e (table ∙ q)))
+
+      -- the same by the kind's row, which has no length for a tag past it
+      module _ (room : getD f at 0 ≤ length f - (at + 1)) where
+        pub at-unknown : 9 ≤ getD f (at + 1) 0 → Broken ≡ measuredAt kind f at
+        at-unknown h = at-other room 0 (no-length kind (getD f (at + 1) 0) h) (λ e. some (sym e))
+
+        module _ (row : List ℕ) (table : RowOf kind row) (known : getD f (at + 1) 0 < 9) where
+          pub row-whole : getD row (getD f (at + 1) 0) 0 ≡ getD f at 0 → Whole (at + 1 + getD f at 0) ≡ measuredAt kind f at
+          row-whole = at-whole room _ (table .at _ known)
+
+          pub row-other : (getD row (getD f (at + 1) 0) 0 ≡ getD f at 0 → ⊥) → Broken ≡ measuredAt kind f at
+          row-other = at-other room _ (table .at _ known)

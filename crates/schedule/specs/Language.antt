@@ -37,6 +37,10 @@ module _ {S : Type 0} (l : Language S) where
       let t = numberAt f (at + 1) 1 in
       l .step t (numbersAt f (at + 1 + 1) (numberWidths (l .kind) t))
 
+  -- the step of a tag whose numbers stand at a place of the file
+  abbrev pub taggedAt : List ℕ → ℕ → ℕ → S
+  taggedAt f t at = l .step t (numbersAt f at (numberWidths (l .kind) t))
+
   -- a step's length, what it takes with its length byte, and its bytes
   abbrev pub stepLength : S → ℕ
   stepLength x = lengthOf (l .kind) (l .tag x)

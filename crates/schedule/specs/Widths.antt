@@ -1,5 +1,6 @@
 -- What a step is made of: the width of its tag and of each of its numbers, by kind and tag. Document 01, "The schedule file". Assumes nothing.
-use Prim.Native.Nat.{ℕ, _+_}
+use mathlib.Core.Path.{_≡_}
+use Prim.Native.Nat.{ℕ, _+_, _<_}
 use mathlib.Core.List.{List, [], _∷_}
 use lib.ListN.{getD, drop}
 use Rattle.rows.specs.Walk.{sum}
@@ -81,6 +82,10 @@ widthsOf kind t = getD (getD widths kind []) t []
 -- a step's length: one byte for the tag plus the sizes of the step's numbers, and 0 for what is no step
 abbrev pub lengthOf : ℕ → ℕ → ℕ
 lengthOf kind t = sum (λ w. w) (widthsOf kind t)
+
+-- a row that has the length of each tag of a kind: nine tags, from 0 on, are all that any kind has
+pub record RowOf (kind : ℕ) (row : List ℕ) : Type 0 where
+  pub at : (t : ℕ) → t < 9 → getD row t 0 ≡ lengthOf kind t
 
 -- the widths of a step's numbers, those behind its tag
 abbrev pub numberWidths : ℕ → ℕ → List ℕ

@@ -1,7 +1,6 @@
 // How many steps a file has, or the fault among them: codes 6 and 7 in reading order.
 use super::front::Fault;
 use super::lengths;
-use super::lengths::Measured;
 use super::limits;
 ghost use mathlib.Core.Path.{_≡_};
 ghost use Rattle.schedule.specs.Counting.{countedOf};
@@ -14,6 +13,7 @@ pub enum Counted {
 pub fn count(kind: u8, file: &[u8], from: usize) -> Counted
     ensures { λ r. ⌜ r ≡ countedOf kind (now (file .entry)) from ⌝ }
 {
+    let row = lengths::row_of(kind);
     let mut at = from;
     let mut k: usize = 0;
     let counted = loop {
@@ -23,18 +23,27 @@ pub fn count(kind: u8, file: &[u8], from: usize) -> Counted
             }
             break Counted::Steps(k);
         }
-        match lengths::measure(kind, file, at) {
-            Measured::End => {
-                break Counted::Steps(k);
-            }
-            Measured::Broken => {
-                break Counted::Faulty(Fault::Step { index: k });
-            }
-            Measured::Whole { next } => {
-                at = next;
-                k += 1;
-            }
+        if file.len() <= at {
+            break Counted::Steps(k);
         }
+        let n = file[at];
+        let b = at + 1;
+        if n == 0 {
+            break Counted::Faulty(Fault::Step { index: k });
+        }
+        let size = n as usize;
+        if file.len() - b < size {
+            break Counted::Faulty(Fault::Step { index: k });
+        }
+        let tag = file[b] as usize;
+        if 9 <= tag {
+            break Counted::Faulty(Fault::Step { index: k });
+        }
+        if row[tag] != n {
+            break Counted::Faulty(Fault::Step { index: k });
+        }
+        at = b + size;
+        k += 1;
     };
     counted
 }

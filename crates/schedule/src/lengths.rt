@@ -1,6 +1,6 @@
 // The one table of step lengths, and how far the step at a place of a file reaches.
 ghost use mathlib.Core.Path.{_≡_};
-ghost use Rattle.schedule.specs.Widths.{lengthOf};
+ghost use Rattle.schedule.specs.Widths.{lengthOf, RowOf};
 ghost use Rattle.schedule.specs.Reading.{measuredAt};
 
 // A row for each kind and a column for each tag, both from 0 on; 0 where there is no such step.
@@ -11,6 +11,17 @@ const LENGTHS: [[u8; 9]; 5] = [
     [0, 5, 1, 1, 5, 0, 0, 0, 0],
     [0, 2, 2, 2, 0, 0, 0, 0, 0],
 ];
+
+// A kind's row of the table, of zeros where there is no such kind. Whoever walks a file looks it up once.
+pub fn row_of(kind: u8) -> [u8; 9]
+    ensures { λ r. ⌜ RowOf kind r ⌝ }
+{
+    if kind < 5 {
+        let row = kind as usize;
+        return LENGTHS[row];
+    }
+    LENGTHS[0]
+}
 
 // The bytes after a step's length byte, 0 where there is no such step.
 pub fn length_of(kind: u8, tag: u8) -> u8

@@ -8,40 +8,57 @@ use super::steps::FlatStep;
 use super::steps::LockStep;
 use super::steps::Step;
 ghost use mathlib.Core.Path.{_≡_};
-ghost use Rattle.schedule.specs.Language.{stepAt};
+ghost use Prim.Native.Nat.{_≤_};
+ghost use lib.ListN.{length};
+ghost use Rattle.schedule.specs.Language.{stepAt, taggedAt};
 ghost use Rattle.schedule.specs.Spelling.{flat, lock, counting, flag};
 ghost use Rattle.schedule.specs.Finding.{foundAt};
 
 // The step whose length byte stands at a place. Nothing is asked of the place: a number that the file does not have is read as 0, and an
-// unknown tag as some step. What was measured whole is read as it stands.
+// unknown tag as some step. What was measured whole is read as it stands. One test of the place serves the tag, and the tags are told apart
+// in groups of at most three, which costs less than a jump to one of many places.
 pub fn flat_step(file: &[u8], at: usize) -> FlatStep
     ensures { λ r. ⌜ r ≡ stepAt flat (now (file .entry)) at ⌝ }
 {
-    if file.len() <= at {
+    if file.len() < 2 {
+        return FlatStep::CombinerGoToCollecting;
+    }
+    if file.len() - 2 < at {
         return FlatStep::CombinerGoToCollecting;
     }
     let p = at + 1;
-    let tag = rows::get1(file, p);
+    let tag = file[p];
     let a = p + 1;
-    if tag == 1 {
-        let j = rows::get1(file, a);
-        let b = a + 1;
-        let rid = rows::get4(file, b);
-        let c = b + 4;
-        let req = rows::get4(file, c);
-        return FlatStep::ClientSend { j, rid, req };
+    flat_tagged(file, tag, a)
+}
+
+// The step of a tag whose numbers stand at a place.
+fn flat_tagged(file: &[u8], tag: u8, a: usize) -> FlatStep
+    requires { ⌜ a ≤ length (now file) ⌝ }
+    ensures { λ r. ⌜ r ≡ taggedAt flat (now (file .entry)) tag a ⌝ }
+{
+    if tag < 3 {
+        if tag == 1 {
+            let j = rows::get1(file, a);
+            let b = a + 1;
+            let rid = rows::get4(file, b);
+            let c = b + 4;
+            let req = rows::get4(file, c);
+            return FlatStep::ClientSend { j, rid, req };
+        }
+        if tag == 2 {
+            let j = rows::get1(file, a);
+            return FlatStep::ClientRecv { j };
+        }
+        return FlatStep::CombinerGoToCollecting;
     }
-    if tag == 2 {
-        let j = rows::get1(file, a);
-        return FlatStep::ClientRecv { j };
-    }
-    if tag == 3 {
-        return FlatStep::CombinerRecv;
-    }
-    if tag == 4 {
-        return FlatStep::CombinerSkip;
-    }
-    if tag == 5 {
+    if tag < 6 {
+        if tag == 3 {
+            return FlatStep::CombinerRecv;
+        }
+        if tag == 4 {
+            return FlatStep::CombinerSkip;
+        }
         return FlatStep::CombinerGoToResponding;
     }
     if tag == 6 {
@@ -59,12 +76,39 @@ pub fn flat_step(file: &[u8], at: usize) -> FlatStep
 pub fn lock_step(file: &[u8], at: usize) -> LockStep
     ensures { λ r. ⌜ r ≡ stepAt lock (now (file .entry)) at ⌝ }
 {
-    if file.len() <= at {
+    if file.len() < 2 {
+        return LockStep::ExcStart;
+    }
+    if file.len() - 2 < at {
         return LockStep::ExcStart;
     }
     let p = at + 1;
-    let tag = rows::get1(file, p);
+    let tag = file[p];
     let a = p + 1;
+    lock_tagged(file, tag, a)
+}
+
+fn lock_tagged(file: &[u8], tag: u8, a: usize) -> LockStep
+    requires { ⌜ a ≤ length (now file) ⌝ }
+    ensures { λ r. ⌜ r ≡ taggedAt lock (now (file .entry)) tag a ⌝ }
+{
+    if 4 < tag {
+        if tag == 5 {
+            let r = rows::get1(file, a);
+            return LockStep::SharedStart { r };
+        }
+        if tag == 6 {
+            let r = rows::get1(file, a);
+            return LockStep::SharedFinish { r };
+        }
+        if tag == 7 {
+            let r = rows::get1(file, a);
+            let b = a + 1;
+            let t = rows::get4(file, b);
+            return LockStep::SharedRelease { r, t };
+        }
+        return LockStep::ExcStart;
+    }
     if tag == 2 {
         return LockStep::ExcCheckCount;
     }
@@ -75,32 +119,28 @@ pub fn lock_step(file: &[u8], at: usize) -> LockStep
         let t = rows::get4(file, a);
         return LockStep::ExcRelease { t };
     }
-    if tag == 5 {
-        let r = rows::get1(file, a);
-        return LockStep::SharedStart { r };
-    }
-    if tag == 6 {
-        let r = rows::get1(file, a);
-        return LockStep::SharedFinish { r };
-    }
-    if tag == 7 {
-        let r = rows::get1(file, a);
-        let b = a + 1;
-        let t = rows::get4(file, b);
-        return LockStep::SharedRelease { r, t };
-    }
     LockStep::ExcStart
 }
 
 pub fn counting_step(file: &[u8], at: usize) -> CountingStep
     ensures { λ r. ⌜ r ≡ stepAt counting (now (file .entry)) at ⌝ }
 {
-    if file.len() <= at {
+    if file.len() < 2 {
+        return CountingStep::NewRef;
+    }
+    if file.len() - 2 < at {
         return CountingStep::NewRef;
     }
     let p = at + 1;
-    let tag = rows::get1(file, p);
+    let tag = file[p];
     let a = p + 1;
+    counting_tagged(file, tag, a)
+}
+
+fn counting_tagged(file: &[u8], tag: u8, a: usize) -> CountingStep
+    requires { ⌜ a ≤ length (now file) ⌝ }
+    ensures { λ r. ⌜ r ≡ taggedAt counting (now (file .entry)) tag a ⌝ }
+{
     if tag == 1 {
         let t = rows::get4(file, a);
         return CountingStep::WriteableToReadable { t };
@@ -118,12 +158,22 @@ pub fn counting_step(file: &[u8], at: usize) -> CountingStep
 pub fn flag_step(file: &[u8], at: usize) -> FlagStep
     ensures { λ r. ⌜ r ≡ stepAt flag (now (file .entry)) at ⌝ }
 {
-    if file.len() <= at {
+    if file.len() < 2 {
+        return FlagStep::Begin { k: 0 };
+    }
+    if file.len() - 2 < at {
         return FlagStep::Begin { k: 0 };
     }
     let p = at + 1;
-    let tag = rows::get1(file, p);
+    let tag = file[p];
     let a = p + 1;
+    flag_tagged(file, tag, a)
+}
+
+fn flag_tagged(file: &[u8], tag: u8, a: usize) -> FlagStep
+    requires { ⌜ a ≤ length (now file) ⌝ }
+    ensures { λ r. ⌜ r ≡ taggedAt flag (now (file .entry)) tag a ⌝ }
+{
     if tag == 1 {
         let k = rows::get1(file, a);
         return FlagStep::Begin { k };

@@ -1,58 +1,42 @@
--- `schedule::read::counting_step` meets its contract: each tag's numbers are read at the widths of that tag, and behind the file's end stands no tag. Assumes nothing.
-use borrow.Author.Tests.{ne-eqb}
-use Rattle.schedule.specs.Widths.{widths, widthsOf}
-use Rattle.schedule.specs.Language.{stepAt}
-use Rattle.schedule.proofs.PastEnd.{past-tag}
+-- `schedule::read::counting_step` meets its contract: the tag is the byte behind the length byte, and behind the file's end stands no tag. Assumes nothing.
+use Rattle.schedule.proofs.PastEnd.{too-short, past-end, by-tag}
 use borrow.Author.Needs.{needs}
 use Rattle.schedule.proofs.read.counting_step.Statement.{statement}
 use Rattle.schedule.proofs.read.counting_step.Tie as tie
 
 returns : tie.Need-returns
-unfolding stepAt widthsOf widths
-returns c = rw (past-tag _ _ (c .if1 .taken))
+returns c = search too-short
+
+sub-if2 : tie.Need-sub-if2
+sub-if2 c = search needs
+
+returns-2 : tie.Need-returns-2
+returns-2 c = search past-end
 
 add-p : tie.Need-add-p
 add-p c = search needs
 
-get1-requires : tie.Need-get1-requires
-get1-requires c κs = search needs
+shared-slice-read-tag : tie.Need-shared-slice-read-tag
+shared-slice-read-tag c = search needs
 
 add-a : tie.Need-add-a
 add-a c = search needs
 
-get4-requires : tie.Need-get4-requires
-get4-requires c κs = search needs
-
-returns-2 : tie.Need-returns-2
-unfolding stepAt widthsOf widths
-returns-2 c = rw (c .get4 .ensures, ← c .before .before .get1 .ensures, c .before .if2 .taken)
+counting-tagged-requires : tie.Need-counting-tagged-requires
+counting-tagged-requires c κs = search needs
 
 returns-3 : tie.Need-returns-3
-unfolding stepAt widthsOf widths
-returns-3 c = rw (← c .before .before .get1 .ensures, c .if3 .taken)
-
-get4-requires-2 : tie.Need-get4-requires-2
-get4-requires-2 c κs = search needs
-
-returns-4 : tie.Need-returns-4
-unfolding stepAt widthsOf widths
-returns-4 c = rw (c .get42 .ensures, ← c .before .before .before .before .get1 .ensures, c .before .if4 .taken)
-
-returns-5 : tie.Need-returns-5
-unfolding stepAt widthsOf widths
-returns-5 c = rw (← c .before .before .before .get1 .ensures, ne-eqb _ _ (c .before .before .if2 .left), ne-eqb _ _ (c .before .if3 .left), ne-eqb _ _ (c .if4 .left))
+returns-3 c = search by-tag
 
 pub counting-step-spec : {M : Type 1} → statement M
 counting-step-spec =
     tie.close
     (tie.spec
     returns
-    add-p
-    get1-requires
-    add-a
-    get4-requires
+    sub-if2
     returns-2
-    returns-3
-    get4-requires-2
-    returns-4
-    returns-5)
+    add-p
+    shared-slice-read-tag
+    add-a
+    counting-tagged-requires
+    returns-3)

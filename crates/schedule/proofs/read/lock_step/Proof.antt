@@ -1,89 +1,42 @@
--- `schedule::read::lock_step` meets its contract: each tag's numbers are read at the widths of that tag, and behind the file's end stands no tag. Assumes nothing.
-use borrow.Author.Tests.{ne-eqb}
-use Rattle.schedule.specs.Widths.{widths, widthsOf}
-use Rattle.schedule.specs.Language.{stepAt}
-use Rattle.schedule.proofs.PastEnd.{past-tag}
+-- `schedule::read::lock_step` meets its contract: the tag is the byte behind the length byte, and behind the file's end stands no tag. Assumes nothing.
+use Rattle.schedule.proofs.PastEnd.{too-short, past-end, by-tag}
 use borrow.Author.Needs.{needs}
 use Rattle.schedule.proofs.read.lock_step.Statement.{statement}
 use Rattle.schedule.proofs.read.lock_step.Tie as tie
 
 returns : tie.Need-returns
-unfolding stepAt widthsOf widths
-returns c = rw (past-tag _ _ (c .if1 .taken))
+returns c = search too-short
+
+sub-if2 : tie.Need-sub-if2
+sub-if2 c = search needs
+
+returns-2 : tie.Need-returns-2
+returns-2 c = search past-end
 
 add-p : tie.Need-add-p
 add-p c = search needs
 
-get1-requires : tie.Need-get1-requires
-get1-requires c κs = search needs
+shared-slice-read-tag : tie.Need-shared-slice-read-tag
+shared-slice-read-tag c = search needs
 
 add-a : tie.Need-add-a
 add-a c = search needs
 
-returns-2 : tie.Need-returns-2
-unfolding stepAt widthsOf widths
-returns-2 c = rw (← c .before .get1 .ensures, c .if2 .taken)
+lock-tagged-requires : tie.Need-lock-tagged-requires
+lock-tagged-requires c κs = search needs
 
 returns-3 : tie.Need-returns-3
-unfolding stepAt widthsOf widths
-returns-3 c = rw (← c .before .before .get1 .ensures, c .if3 .taken)
-
-get4-requires : tie.Need-get4-requires
-get4-requires c κs = search needs
-
-returns-4 : tie.Need-returns-4
-unfolding stepAt widthsOf widths
-returns-4 c = rw (c .get4 .ensures, ← c .before .before .before .before .get1 .ensures, c .before .if4 .taken)
-
-get1-requires-2 : tie.Need-get1-requires-2
-get1-requires-2 c κs = search needs
-
-returns-5 : tie.Need-returns-5
-unfolding stepAt widthsOf widths
-returns-5 c = rw (c .get12 .ensures, ← c .before .before .before .before .before .get1 .ensures, c .before .if5 .taken)
-
-get1-requires-3 : tie.Need-get1-requires-3
-get1-requires-3 c κs = search needs
-
-returns-6 : tie.Need-returns-6
-unfolding stepAt widthsOf widths
-returns-6 c = rw (c .get13 .ensures, ← c .before .before .before .before .before .before .get1 .ensures, c .before .if6 .taken)
-
-get1-requires-4 : tie.Need-get1-requires-4
-get1-requires-4 c κs = search needs
-
-add-b : tie.Need-add-b
-add-b c = search needs
-
-get4-requires-2 : tie.Need-get4-requires-2
-get4-requires-2 c κs = search needs
-
-returns-7 : tie.Need-returns-7
-unfolding stepAt widthsOf widths
-returns-7 c = rw (c .get42 .ensures, c .before .get14 .ensures, ← c .before .before .before .before .before .before .before .before .get1 .ensures, c .before .before .if7 .taken)
-
-returns-8 : tie.Need-returns-8
-unfolding stepAt widthsOf widths
-returns-8 c = rw (← c .before .before .before .before .before .before .get1 .ensures, ne-eqb _ _ (c .before .before .before .before .before .if2 .left), ne-eqb _ _ (c .before .before .before .before .if3 .left), ne-eqb _ _ (c .before .before .before .if4 .left), ne-eqb _ _ (c .before .before .if5 .left), ne-eqb _ _ (c .before .if6 .left), ne-eqb _ _ (c .if7 .left))
+returns-3 c = search by-tag
 
 pub lock-step-spec : {M : Type 1} → statement M
 lock-step-spec =
     tie.close
     (tie.spec
     returns
-    add-p
-    get1-requires
-    add-a
+    sub-if2
     returns-2
-    returns-3
-    get4-requires
-    returns-4
-    get1-requires-2
-    returns-5
-    get1-requires-3
-    returns-6
-    get1-requires-4
-    add-b
-    get4-requires-2
-    returns-7
-    returns-8)
+    add-p
+    shared-slice-read-tag
+    add-a
+    lock-tagged-requires
+    returns-3)
