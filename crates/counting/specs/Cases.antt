@@ -1,4 +1,4 @@
--- Small cases of each step, written from document 01 ("Codes", "Counting", "Log and image") and not from specs/Counting.antt: for each step one that is
+-- Small cases of each step, written from the scope ("Codes", "Counting", "Log and image") and not from specs/Counting.antt: for each step one that is
 -- accepted, and for each of its tests one that this test refuses. Proved by one claim, in proofs/Tabled.antt. Assumes nothing.
 use Prim.Native.Nat.{ℕ}
 use mathlib.Core.Path.{_≡_}

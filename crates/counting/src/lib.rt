@@ -1,5 +1,5 @@
 // The counting machine: one stored value, the counter of the references to it, and the references held. A state goes in by value and comes
-// back by value. Every function here takes any input.
+// back by value. Every public function here takes any input.
 pub mod state; // the state: fresh, sound, its image
 pub mod moves; // the four transitions on a state
 pub mod entry; // what a step logs

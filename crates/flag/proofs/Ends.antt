@@ -2,6 +2,7 @@
 use Prim.Native.Nat.{ℕ, zero, suc, _<_}
 use mathlib.Core.Path.{_≡_, refl}
 use mathlib.Core.Bool.{Bool, true, false, _||_}
+use mathlib.Core.List.{[], _∷_}
 use native.Mathlib.Omega.{arith}
 use lib.Dec.{eqb}
 use lib.ListN.{length, set, replicate, length-set}
@@ -9,11 +10,12 @@ use lib.Seq.{getD-set-same}
 use borrow.Author.Tests.{eqb-true, eq-eqb, lt-ltb}
 use Rattle.rows.proofs.Cases.{on, clash}
 use Rattle.machine.specs.Machine.{Accepted}
+use Rattle.machine.specs.Replay.{after}
 use Rattle.schedule.specs.Limits as limit
-use Rattle.schedule.specs.declared.steps.FlagStep.the-variants.{Move}
+use Rattle.schedule.specs.declared.steps.FlagStep.the-variants.{Begin, Move}
 use Rattle.flag.specs.Source as source
 use Rattle.flag.specs.Source.{Control}
-use Rattle.flag.specs.Flag.{flag, place, went, wentBy, next}
+use Rattle.flag.specs.Flag.{flag, emptyFlag, place, went, wentBy, next}
 use Rattle.flag.specs.Refined.{number, controls, Sound, EndsWithin, over, goes}
 use Rattle.flag.specs.declared.state.State.{State}
 use Rattle.flag.proofs.Sounds.{sound-told, in-row}
@@ -96,9 +98,13 @@ ends-alone (suc m) k s r (goes a t) = on (eqb (place s k) 0)
     (λ x. rw x)
     (λ x. rw x (rw (own-place s k r) at (ends-alone m k (next s (Move k)) (rw length-set r) t)))
 
-abbrev lone-offer : State
-lone-offer = record { threads = 1; pending = 0; value = true; places = set (replicate limit.threads 0) 0 3 }
+-- the flag was false when thread 0 looked, and thread 1 turned it: b0 m0 m0 b1 m1 m1 m1 of two threads leads here
+abbrev turned-meanwhile : State
+turned-meanwhile = record { threads = 2; pending = 0; value = true; places = set (replicate limit.threads 0) 0 3 }
 
-pub not-four : Sound lone-offer × (EndsWithin 0 4 lone-offer → ⊥)
+pub turned-reached : after flag (emptyFlag 2 false) (Begin 0 ∷ Move 0 ∷ Move 0 ∷ Begin 1 ∷ Move 1 ∷ Move 1 ∷ Move 1 ∷ []) ≡ turned-meanwhile
+turned-reached = refl
+
+pub not-four : Sound turned-meanwhile × (EndsWithin 0 4 turned-meanwhile → ⊥)
 unfolding alone
-not-four = (sound-told lone-offer refl refl, λ t. let z = ends-alone 4 0 lone-offer (omega arith) t in clash (cc))
+not-four = (sound-told turned-meanwhile refl refl, λ t. let z = ends-alone 4 0 turned-meanwhile (omega arith) t in clash (cc))

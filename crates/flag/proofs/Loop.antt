@@ -1,4 +1,4 @@
--- Document 01's table of places is the source's loop: its numbers are the loop's places, and each of its lines is an operation of the loop.
+-- The scope's table of places is the source's loop: its numbers are the loop's places, and each of its lines is an operation of the loop.
 -- Assumes nothing.
 use Prim.Native.Nat.{ℕ, zero, suc, _≤_, _<_}
 use mathlib.Core.Path.{_≡_, refl, sym, ap, _∙_}

@@ -1,4 +1,4 @@
--- Small cases of each step, written from document 01 ("Codes", "Flag", "Log and image", P11 and P12) and not from specs/Flag.antt: fresh flags; for each
+-- Small cases of each step, written from the scope ("Codes", "Flag", "Log and image", P11 and P12) and not from specs/Flag.antt: fresh flags; for each
 -- step one that is accepted, and for each of its tests one that this test refuses; every place with success and failure of its exchange; and the two
 -- whole runs. Proved by one claim, in proofs/Tabled.antt. Assumes nothing.
 use Prim.Native.Nat.{ℕ}

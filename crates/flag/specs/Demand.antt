@@ -1,4 +1,4 @@
--- Demand 3's share of the flag, said of an accepted history alone. Proved in proofs/Demands.antt. Assumes nothing.
+-- Demand 3's share of the flag, said of an accepted history and of where its steps lead. Proved in proofs/Demands.antt. Assumes nothing.
 use Prim.Native.Nat.{ℕ, zero, suc, _≤_}
 use mathlib.Core.Path.{_≡_}
 use mathlib.Core.Bool.{Bool, true, false, not}

@@ -20,7 +20,7 @@ use Rattle.flag.specs.declared.moves.Flips.the-variants.{Nobody, Mover, 
 use Rattle.flag.specs.declared.entry.Entry.{Entry}
 use Rattle.flag.specs.declared.entry.Entry.the-variants.{Flip, Saw}
 
--- document 01's number of each place of the loop
+-- the scope's number of each place of the loop
 abbrev pub number : Control → ℕ
 number source.returned = 0
 number source.try-cancel-two-flips = 1
@@ -129,7 +129,7 @@ pub record Wanders (s : State) (k n : ℕ) : Type 0 where
 -- ---------- what is proved
 
 pub record Refines : Type 0 where
-  -- document 01's table of places is the source's loop
+  -- the scope's table of places is the source's loop
   pub table : (c : Control) (m : Memory) → (c ≡ source.returned → ⊥)
       → went (number c) (m .pending) (m .value)
       ≡ record {

@@ -1,4 +1,4 @@
--- Small cases of each step, written from document 01 ("Codes", "Flat combiner", "Log and image", P1, P3 to P6) and not from specs/Flat.antt: for each step
+-- Small cases of each step, written from the scope ("Codes", "Flat combiner", "Log and image", P1, P3 to P6) and not from specs/Flat.antt: for each step
 -- one that is accepted, and for each of its tests one that this test refuses. Proved by one claim, in proofs/Tabled.antt. Assumes nothing.
 use Prim.Native.Nat.{ℕ}
 use mathlib.Core.Path.{_≡_}

@@ -1,4 +1,4 @@
--- The flat combiner as document 01 has it: a step's tests, the state after it, what it logs. Assumes nothing.
+-- The flat combiner as the scope has it: a step's tests, the state after it, what it logs. Assumes nothing.
 use Prim.Native.Nat.{ℕ, _+_}
 use mathlib.Core.Path.{_≡_, refl}
 use mathlib.Core.Bool.{Bool, true, false, cond, not}

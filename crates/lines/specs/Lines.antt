@@ -1,4 +1,4 @@
--- The three lines of an answer: document 01, "The program reads standard input and writes three lines". Assumes nothing.
+-- The three lines of an answer: the scope, "The program reads standard input and writes three lines". Assumes nothing.
 use Prim.Native.Nat.{ℕ, _+_, _*_, _≤_}
 use mathlib.Core.Path.{_≡_}
 use mathlib.Core.Bool.{cond}

@@ -1,4 +1,4 @@
--- Small cases of each step, written from document 01 ("Codes", "Shift lock", "Log and image") and not from specs/Lock.antt: for each step some that
+-- Small cases of each step, written from the scope ("Codes", "Shift lock", "Log and image") and not from specs/Lock.antt: for each step some that
 -- are accepted, and for each of its tests one that this test refuses. Proved by one claim, in proofs/Tabled.antt. Assumes nothing.
 use Prim.Native.Nat.{ℕ, _+_, _-_}
 use mathlib.Core.Path.{_≡_}

@@ -1,4 +1,4 @@
--- The bytes of an entry and of a state: document 01, "Log and image". Assumes nothing.
+-- The bytes of an entry and of a state: the scope, "Log and image". Assumes nothing.
 use Prim.Native.Nat.{ℕ}
 use mathlib.Core.Bool.{cond}
 use mathlib.Core.List.{List, [], _∷_, _++_}

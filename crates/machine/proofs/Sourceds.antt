@@ -36,7 +36,7 @@ module _ {m : Machine} (o : Sourced m) (Good : m .State → Type 0) (u : Upholds
   pub accepted-path : (s : m .State) (xs : List (m .Step)) → Good s → AllAccepted m s xs → Path o (o .abs s) xs (entries m s xs) (o .abs (after m s xs))
   accepted-path s [] g a = stay
   accepted-path s (x ∷ xs) g a =
-      move (u .accepted-moves s x g (a .0)) (u .accepted-logs s x g (a .0)) (accepted-path (m .next s x) xs (u .accepted-good s x g (a .0)) (a .1))
+      move (u .accepted-moves s x g (a .0)) (u .accepted-safe s x g (a .0)) (u .accepted-logs s x g (a .0)) (accepted-path (m .next s x) xs (u .accepted-good s x g (a .0)) (a .1))
 
   -- ---------- a whole replay
 

@@ -1,4 +1,4 @@
--- What an accepted history is, and counting in it. Demands are said of histories, never of states. Assumes nothing.
+-- What an accepted history is, and counting in it. Demands are said of histories. Assumes nothing.
 use mathlib.Core.Bool.{Bool, true, false}
 use mathlib.Core.List.{List, [], _∷_, _++_}
 use Prim.Native.Nat.{ℕ}

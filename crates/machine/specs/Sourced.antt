@@ -7,13 +7,15 @@ use Rattle.machine.specs.Check.{FailsAt}
 use Rattle.machine.specs.Machine.{Machine, Accepted}
 use Rattle.machine.specs.Replay.{Replayed, after, entries}
 
--- the source's states and the state of the source that a machine's state stands for; when a step is enabled, the counter's limit counted in; the
--- source's transitions, and what each hands out
+-- the source's states, when two of them are the same, and the one that a machine's state stands for; when a step is enabled, the counter's limit
+-- counted in; the source's transitions, what each takes for granted, and what it hands out
 pub record Sourced (m : Machine) : Type 1 where
   pub Source : Type 0
+  pub Same : Source → Source → Type 0
   pub abs : m .State → Source
   pub Enabled : m .State → m .Step → Type 0
   pub Moves : Source → m .Step → Source → Type 0
+  pub Safe : Source → m .Step → Type 0
   pub HandsOut : Source → m .Step → List (m .Entry) → Type 0
 
 module _ {m : Machine} (o : Sourced m) where
@@ -26,7 +28,7 @@ module _ {m : Machine} (o : Sourced m) where
   pub data Path : o .Source → List (m .Step) → List (m .Entry) → o .Source → Type 0 where
     stay : {a : o .Source} → Path a [] [] a
     move : {a b c : o .Source} {x : m .Step} {xs : List (m .Step)} {es fs : List (m .Entry)}
-        → o .Moves a x b → o .HandsOut a x es → Path b xs fs c → Path a (x ∷ xs) (es ++ fs) c
+        → o .Moves a x b → o .Safe a x → o .HandsOut a x es → Path b xs fs c → Path a (x ∷ xs) (es ++ fs) c
 
   -- the first disabled step of a schedule, with its index and the reason: the code of the first of its tests that fails
   pub record StopsAt (s₀ : m .State) (xs : List (m .Step)) (k c : ℕ) : Type 0 where
@@ -58,5 +60,8 @@ pub record Upholds {m : Machine} (o : Sourced m) (Good : m .State → Type 0) : 
   pub accepted-enabled : (s : m .State) (x : m .Step) → Good s → Accepted m s x → o .Enabled s x
   pub enabled-accepted : (s : m .State) (x : m .Step) → Good s → o .Enabled s x → Accepted m s x
   pub accepted-moves : (s : m .State) (x : m .Step) → Good s → Accepted m s x → o .Moves (o .abs s) x (o .abs (m .next s x))
+  -- to no other state of the source
+  pub accepted-post : (s : m .State) (x : m .Step) (to : o .Source) → Good s → Accepted m s x → o .Moves (o .abs s) x to → o .Same to (o .abs (m .next s x))
+  pub accepted-safe : (s : m .State) (x : m .Step) → Good s → Accepted m s x → o .Safe (o .abs s) x
   pub accepted-logs : (s : m .State) (x : m .Step) → Good s → Accepted m s x → o .HandsOut (o .abs s) x (m .logs s x)
   pub accepted-good : (s : m .State) (x : m .Step) → Good s → Accepted m s x → Good (m .next s x)

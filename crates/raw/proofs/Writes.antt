@@ -2,7 +2,7 @@
 use mathlib.Core.Path.{_≡_, refl}
 use mathlib.Core.Bool.{Bool}
 use mathlib.Core.List.{List, [], _∷_, _++_}
-use Prim.Native.Nat.{ℕ, _+_, _*_, _≤_, _<_}
+use Prim.Native.Nat.{ℕ, _+_, _-_, _*_, _≤_, _<_}
 use native.Mathlib.Omega.{arith}
 use mir.Val.{boolByte}
 use lib.ListN.{length, length-append}
@@ -54,11 +54,19 @@ laying-all f d xs n out₀ at out i p g h =
 
 -- ---------- flags, counting
 
+-- four flags that do not fit
+module _ (l : List ℕ) (at : ℕ) (v x y z : Bool) where
+  pub none-short : length l < 4 → Laid l at (flagsBytes v x y z) at l
+  none-short h = none-laid l at (flagsBytes v x y z) (omega arith)
+
+  pub none-far : 4 ≤ length l → length l - 4 < at → Laid l at (flagsBytes v x y z) at l
+  none-far h p = none-laid l at (flagsBytes v x y z) (omega arith)
+
 module _ (l : List ℕ) (at a b c d : ℕ) (k m n o : List ℕ) where
-  pub flags-laid : (v x y z : Bool) → at + 4 ≤ length l → Laid l at (boolByte v ∷ []) a k → Laid k a (boolByte x ∷ []) b m → Laid m b (boolByte y ∷ []) c n
+  pub flags-laid : (v x y z : Bool) → 4 ≤ length l → at ≤ length l - 4 → Laid l at (boolByte v ∷ []) a k → Laid k a (boolByte x ∷ []) b m → Laid m b (boolByte y ∷ []) c n
       → Laid n c (boolByte z ∷ []) d o → Laid l at (flagsBytes v x y z) d o
-  flags-laid v x y z h p q r =
-      four-laid l at (boolByte v ∷ []) (boolByte x ∷ []) (boolByte y ∷ []) (boolByte z ∷ []) h a b c k m n p q r d o
+  flags-laid v x y z h i p q r =
+      four-laid l at (boolByte v ∷ []) (boolByte x ∷ []) (boolByte y ∷ []) (boolByte z ∷ []) (omega arith) a b c k m n p q r d o
 
   pub counting-laid : (s : counting.State) → 7 ≤ length l → Laid l 0 (big 4 (s .t)) a k → Laid k a (s .count ∷ []) b m → Laid m b (s .refs ∷ []) c n
       → Laid n c (boolByte (s .present) ∷ []) d o → Laid l 0 (countingBytes s) d o

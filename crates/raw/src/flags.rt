@@ -11,11 +11,16 @@ pub fn set_at(raw: &[u8], at: usize) -> bool
     rows::get1(raw, at) != 0
 }
 
-// Four flags, one behind the other.
+// Four flags, one behind the other, all or nothing.
 pub fn put_flags(raw: &mut [u8], at: usize, a: bool, b: bool, c: bool, d: bool) -> usize
-    requires { ⌜ at + 4 ≤ length (now raw) ⌝ }
     ensures { λ r. ⌜ Laid (now (raw .entry)) at (flagsBytes a b c d) r (now (raw .exit)) ⌝ }
 {
+    if raw.len() < 4 {
+        return at;
+    }
+    if raw.len() - 4 < at {
+        return at;
+    }
     let p = rows::put1(raw, at, a as u8);
     let q = rows::put1(raw, p, b as u8);
     let o = rows::put1(raw, q, c as u8);

@@ -5,13 +5,14 @@ use mathlib.Core.List.{List, [], _∷_, _++_}
 use Prim.Native.Nat.{ℕ, _+_, _≤_, _<_}
 use native.Mathlib.Omega.{arith}
 use lib.ListN.{length}
+use Rattle.rows.proofs.Cases.{on}
 use Rattle.machine.specs.Machine.{Machine}
 use Rattle.machine.specs.History.{Run, start}
 use Rattle.machine.specs.Replay.{AllAccepted, after, past}
 use Rattle.machine.specs.Rest.{Rested, untouched}
 use Rattle.machine.specs.Sourced.{AllEnabled}
 use Rattle.machine.proofs.Pasts.{ran}
-use Rattle.machine.proofs.Singles.{single-unsound}
+use Rattle.machine.proofs.Singles.{single-unsound, kept-state}
 use Rattle.machine.proofs.Sourceds.{all-accepted, after-good}
 use Rattle.schedule.specs.Limits as limit
 use Rattle.schedule.specs.Codes as code
@@ -42,6 +43,8 @@ use Rattle.lock.proofs.Refines as lockRefined
 use Rattle.counting.specs.Counting as count
 use Rattle.counting.specs.Sound as countingSound
 use Rattle.counting.specs.Image as countingBytes
+use Rattle.counting.specs.Refined as countingTo
+use Rattle.counting.proofs.Refines as countingRefined
 use Rattle.counting.proofs.Demands as countingProved
 use Rattle.flag.specs.Flag.{flag, emptyFlag, next}
 use Rattle.flag.specs.declared.state.State as flagState
@@ -60,9 +63,9 @@ use Rattle.flag_run.proofs.Turns as flagTurns
 use Rattle.flag_run.proofs.Whole as flagWhole
 use Rattle.replayer.specs.Replay.{replayed, answered, replayOf}
 use Rattle.replayer.specs.Sources.{flatCombine, distRwLock, countingPermissions, helping}
-use Rattle.replayer.specs.Demands.{steps#, Room, Demand1, Demand2, Demand3}
+use Rattle.replayer.specs.Demands.{steps#, Room, MadeUpRefused, Demand1, Demand2, Demand3}
 use Rattle.replayer.proofs.Behind.{decoded-allowed}
-use Rattle.replayer.proofs.Rooms.{Keeps, untouched-keeps, no-room, rest-keeps, replays}
+use Rattle.replayer.proofs.Rooms.{Keeps, untouched-keeps, no-room, roomy, rest-keeps, replays}
 use Rattle.replayer.proofs.Four.{flat-upholds, lock-upholds, counting-upholds, flag-upholds, flat-fresh, lock-fresh, flag-fresh, single-exact, flat-codes, lock-codes, counting-codes, flag-codes}
 
 -- ---------- 1
@@ -95,6 +98,19 @@ module _ (log image : List ℕ) where
   schedule-short (ofCounting xs) = no-room count.counting countingBytes.entryBytes countingBytes.imageBytes count.freshState xs log image
   schedule-short (ofFlag n v xs) = no-room flag flagBytes.entryBytes flagBytes.imageBytes (emptyFlag n v) xs log image
 
+  schedule-roomy : (s : Schedule) → Room (steps# s) log image → replayed s log image .code ≡ code.room → ⊥
+  schedule-roomy (ofFlat n xs) = roomy flat flatBytes.entryBytes flatBytes.imageBytes (emptyFlat n) xs log image flat-codes flatTurns.short flatWhole.small
+  schedule-roomy (ofLock w t xs) = roomy lock lockBytes.entryBytes lockBytes.imageBytes (freshState w t) xs log image lock-codes lockTurns.short lockWhole.small
+  schedule-roomy (ofCounting xs) =
+      roomy count.counting countingBytes.entryBytes countingBytes.imageBytes count.freshState xs log image counting-codes countingTurns.short countingWhole.small
+  schedule-roomy (ofFlag n v xs) = roomy flag flagBytes.entryBytes flagBytes.imageBytes (emptyFlag n v) xs log image flag-codes flagTurns.short flagWhole.small
+
+-- a state that is not sound fails the test, which is the record where the rows are whole
+made-up : (m : Machine) (sound : m .State → Bool) (Whole Sound : m .State → Type 0) → ((s : m .State) → Whole s → sound s ≡ true → Sound s) → MadeUpRefused m sound Whole Sound
+made-up m sound Whole Sound told s x log h w n = on (sound s)
+    (λ b. absurd (n (told s w b)))
+    (λ b. single-unsound m sound limit.entry s x log h b)
+
 module _ (f log image : List ℕ) where
   decoded : (d : Decoded) → decode f ≡ d → replayOf f log image ≡ answered d log image
   unfolding replayOf
@@ -110,14 +126,19 @@ module _ (f log image : List ℕ) where
         given = faults-given f;
         fault = λ x e. decoded (faulty x) e;
         short = λ s e n. decoded (good s) e ∙ schedule-short log image s n;
+        long-enough = λ s e r z. schedule-roomy log image s r (rw (decoded (good s) e) at z);
         refused-file = keeps .refused-file;
         known = keeps .known;
         log-kept = keeps .log-kept;
         image-kept = keeps .image-kept;
-        made-up-flat = λ s x l h e. single-unsound flat flatSound.sound limit.entry s x l h e;
-        made-up-lock = λ s x l h e. single-unsound lock lockSound.sound limit.entry s x l h e;
-        made-up-counting = λ s x l h e. single-unsound count.counting countingSound.sound limit.entry s x l h e;
-        made-up-flag = λ s x l h e. single-unsound flag flagSound.sound limit.entry s x l h e;
+        refused-flat = kept-state flat flatSound.sound limit.entry;
+        refused-lock = kept-state lock lockSound.sound limit.entry;
+        refused-counting = kept-state count.counting countingSound.sound limit.entry;
+        refused-flag = kept-state flag flagSound.sound limit.entry;
+        made-up-flat = made-up flat flatSound.sound _ flatTo.Sound (λ s w e. flatRefined.refines .sound-told s (w .0) (w .1) e);
+        made-up-lock = made-up lock lockSound.sound _ lockTo.Sound (λ s w e. lockRefined.refines .sound-told s w e);
+        made-up-counting = made-up count.counting countingSound.sound _ countingTo.Sound (λ s w e. countingRefined.refines .sound-told s e);
+        made-up-flag = made-up flag flagSound.sound _ flagTo.Sound (λ s w e. flagRefined.refines .sound-told s w e);
       }
 
 -- ---------- 2
@@ -130,6 +151,10 @@ module _ (f log image : List ℕ) where
         step-lock = lock-upholds;
         step-counting = counting-upholds;
         step-flag = flag-upholds;
+        fresh-flat = flat-fresh;
+        fresh-lock = lock-fresh;
+        fresh-counting = refl;
+        fresh-flag = flag-fresh;
         single-flat = single-exact flatCombine flatTo.Sound flatSound.sound flat-upholds (flatRefined.refines .told-sound);
         single-lock = single-exact distRwLock lockTo.Sound lockSound.sound lock-upholds (lockRefined.refines .told-sound);
         single-counting = single-exact countingPermissions (λ s. countingSound.sound s ≡ true) countingSound.sound counting-upholds (λ s e. e);

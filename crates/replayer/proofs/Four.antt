@@ -49,6 +49,8 @@ flat-upholds =
       accepted-enabled = r .accepted-enabled;
       enabled-accepted = r .enabled-accepted;
       accepted-moves = r .accepted-moves;
+      accepted-post = r .accepted-post;
+      accepted-safe = r .accepted-safe;
       accepted-logs = r .accepted-logs;
       accepted-good = r .accepted-sound;
     }
@@ -60,6 +62,8 @@ lock-upholds =
       accepted-enabled = r .accepted-enabled;
       enabled-accepted = r .enabled-accepted;
       accepted-moves = r .accepted-moves;
+      accepted-post = r .accepted-post;
+      accepted-safe = r .accepted-safe;
       accepted-logs = r .accepted-logs;
       accepted-good = r .accepted-sound;
     }
@@ -71,6 +75,8 @@ counting-upholds =
       accepted-enabled = r .accepted-enabled;
       enabled-accepted = r .enabled-accepted;
       accepted-moves = r .accepted-moves;
+      accepted-post = r .accepted-post;
+      accepted-safe = r .accepted-safe;
       accepted-logs = r .accepted-logs;
       accepted-good = r .accepted-sound;
     }
@@ -82,6 +88,8 @@ flag-upholds =
       accepted-enabled = r .accepted-enabled;
       enabled-accepted = r .enabled-accepted;
       accepted-moves = r .accepted-moves;
+      accepted-post = r .accepted-post;
+      accepted-safe = λ s x g a. tt;
       accepted-logs = r .accepted-logs;
       accepted-good = r .accepted-sound;
     }

@@ -81,8 +81,8 @@ module _ (r : Replayer) (h : Promised r) where
             omega (arith, x, y, code (p03 .file), code (p05 .file), seen .p3-code, seen .p5-code);
         moves-nothing = λ e. omega (arith, ap (λ (l : List ℕ). getD l 0 0) e, first sent, first noSteps, seen .sent-first, seen .none-first);
         all-at-step-one = λ e. omega (arith, ap (λ (l : List ℕ). getD l 0 0) e, first sent, first (p03 .file), seen .sent-first, seen .p3-first);
-        idles-afterwards = image (p05 .file) ∙ seen .p5-image ∙ sym (image sent);
-        invented-index = λ k e. sym e ∙ place (p05 .file) ∙ seen .p5-place;
+        refused-step-moves-nothing = image (p05 .file) ∙ seen .p5-image ∙ sym (image sent);
+        index-is-the-steps = place (p05 .file) ∙ seen .p5-place;
         empty-log = λ n. omega (arith, n (p03 .file) (replicate 50 0) (replicate 512 0), logged (p03 .file), seen .p3-logged);
-        invented-log = λ bs e. sym e ∙ log (p03 .file) ∙ seen .p3-log;
+        log-is-the-answer = log (p03 .file) ∙ seen .p3-log;
       }

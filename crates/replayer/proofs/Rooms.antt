@@ -103,6 +103,10 @@ module _ (m : Machine) (bytes : m .Entry → List ℕ) (imageOf : m .State → L
           image-kept = record { bytes = imageOf (ran .state); many = refl; fits = omega (arith, r .state, small (ran .state)); over-front = refl };
         }
 
+    -- 8 is given for want of room alone
+    pub roomy : Room (length xs) log image → answer .code ≡ code.room → ⊥
+    roomy r e = let z = rw (with-room r) at e in never-file (ran-code (told m s xs .ends)) (omega (arith, z)) (omega (arith, z))
+
     pub rest-keeps : Keeps log image answer
     rest-keeps = on (ltb (length log) (length xs * limit.entry)) (λ a. rw a (untouched-keeps code.room 0 log image (omega arith) (omega arith)))
         (λ a. on (ltb (length image) limit.image) (λ b. rw (a, b) (untouched-keeps code.room 0 log image (omega arith) (omega arith)))

@@ -1,4 +1,4 @@
--- The bench cases of document 01, P1 to P12, each a row: the file, the lengths of both buffers, the code and place answered, what is written to each. One
+-- The bench cases of the scope, P1 to P12, each a row: the file, the lengths of both buffers, the code and place answered, what is written to each. One
 -- claim over the table proves them: proofs/Tabled.antt. Written by bench/cases/write.py. Assumes nothing.
 use mathlib.Core.Path.{_≡_}
 use mathlib.Core.Bool.{Bool, true, _&&_}

@@ -1,10 +1,11 @@
--- THE THREE DEMANDS, of any bytes and any two buffers. The user's sentences stand above the clauses that give them; proofs/Demands.antt proves all
--- three. Assumes nothing.
+-- THE THREE DEMANDS, of any bytes and any two buffers. The user's sentences stand above the clauses that give them ("document 01" is the scope);
+-- proofs/Demands.antt proves all three. The words used: `Leaves` and `Rested`, what a call answers and leaves (schedule specs/Answers, machine
+-- specs/Rest); `single`, one step on any state (machine specs/Single); `Exact` and `Upholds`, going by the source (machine specs/Sourced). Assumes nothing.
 use mathlib.Core.Path.{_≡_}
 use mathlib.Core.Bool.{Bool, true, false}
 use mathlib.Core.Logic.{_⊎_}
 use mathlib.Core.List.{List, [], _++_}
-use mathlib.Core.Option.{some}
+use mathlib.Core.Option.{Option, some}
 use Prim.Native.Nat.{ℕ, _+_, _*_, _≤_, _<_}
 use lib.ListN.{length, take}
 use Rattle.rows.specs.Stores.{over}
@@ -39,6 +40,7 @@ use Rattle.lock.specs.Image as lockBytes
 use Rattle.lock.specs.Demand as lockDemand
 use Rattle.counting.specs.Counting as count
 use Rattle.counting.specs.Sound as countingSound
+use Rattle.counting.specs.Refined as countingTo
 use Rattle.counting.specs.Image as countingBytes
 use Rattle.counting.specs.Demand as countingDemand
 use Rattle.flag.specs.Flag.{flag, emptyFlag}
@@ -49,7 +51,7 @@ use Rattle.flag.specs.Demand as flagDemand
 use Rattle.replayer.specs.Replay.{replayOf}
 use Rattle.replayer.specs.Sources.{flatCombine, distRwLock, countingPermissions, helping}
 
--- how many steps a schedule has, and buffers of document 01's sizes for n steps
+-- how many steps a schedule has, and buffers of the scope's sizes for n steps
 abbrev pub steps# : Schedule → ℕ
 steps# (ofFlat n xs) = length xs
 steps# (ofLock w t xs) = length xs
@@ -62,10 +64,18 @@ pub record Room (n : ℕ) (log image : List ℕ) : Type 0 where
 
 -- ---------- 1
 
--- a made-up state: a single step tests it and, if it is not sound, answers 10, hands it back and logs nothing
-abbrev pub MadeUpRefused : (m : Machine) → (m .State → Bool) → Type 0
-MadeUpRefused m sound =
-    (s : m .State) (x : m .Step) (log : List ℕ) → limit.entry ≤ length log → sound s ≡ false → single m sound limit.entry s (some x) log ≡ handedBack code.unsound s
+-- a made-up state with whole rows, as every row of the code is: a single step tests it and, if it is not sound, answers 10, hands it back and logs
+-- nothing. What sound is: the source's invariants, the limits, unused entries zero
+abbrev pub MadeUpRefused : (m : Machine) → (m .State → Bool) → (m .State → Type 0) → (m .State → Type 0) → Type 0
+MadeUpRefused m sound Whole Sound =
+    (s : m .State) (x : m .Step) (log : List ℕ) → limit.entry ≤ length log → Whole s → (Sound s → ⊥)
+    → single m sound limit.entry s (some x) log ≡ handedBack code.unsound s
+
+-- a refused single step, of this kind or another, hands the state back and logs nothing
+abbrev pub RefusalKeeps : (m : Machine) → (m .State → Bool) → Type 0
+RefusalKeeps m sound =
+    (s : m .State) (x : Option (m .Step)) (log : List ℕ)
+    → let a = single m sound limit.entry s x log in (a .code ≡ 0 → ⊥) → (a .state ≡ s) × (a .wrote ≡ [])
 
 -- what is written, and that the bytes beyond keep their values
 pub record Wrote (count : ℕ) (before after : List ℕ) : Type 0 where
@@ -79,23 +89,28 @@ pub record Wrote (count : ℕ) (before after : List ℕ) : Type 0 where
 pub record Demand1 (f log image : List ℕ) : Type 0 where
   -- one answer: two that meet the promise are equal, and so are the buffers that they leave
   pub one-answer : (r q : Answer) (k l i j : List ℕ) → Leaves (replayOf f log image) r k i → Leaves (replayOf f log image) q l j → (r ≡ q) × (k ≡ l) × (i ≡ j)
-  -- codes 1 to 7, each exactly when document 01 gives it; then 8 exactly when a buffer is under its size
+  -- codes 1 to 7, each exactly when the scope gives it; then 8 exactly when a buffer is under its size
   pub given : FaultsGiven f
   pub fault : (x : Fault) → decode f ≡ faulty x → replayOf f log image ≡ untouched (faultCode x) (faultPlace x) log image
   pub short : (s : Schedule) → decode f ≡ good s → (Room (steps# s) log image → ⊥) → replayOf f log image ≡ untouched code.room 0 log image
+  pub long-enough : (s : Schedule) → decode f ≡ good s → Room (steps# s) log image → replayOf f log image .code ≡ code.room → ⊥
   -- "A refused file leaves the log and state buffers untouched." A file is refused by 1 to 8; any other code is 0 or a step's, 11 to 18
   pub refused-file : let a = replayOf f log image in 1 ≤ a .code → a .code ≤ code.unsound → a ≡ untouched (a .code) (a .place) log image
   pub known : let c = replayOf f log image .code in (c ≡ 0) ⊎ ((1 ≤ c) × (c ≤ code.room)) ⊎ ((code.outside ≤ c) × (c ≤ code.full))
   -- nothing is written but entries and image, at the front of their buffers
   pub log-kept : let a = replayOf f log image in Wrote (a .logged) log (a .log)
   pub image-kept : let a = replayOf f log image in Wrote (a .imaged) image (a .image)
+  -- "A refused step leaves the state that stood before it and the log of the steps before it": a single step here, a file's step in the fields state and
+  -- log of `Exact`, below
+  pub refused-flat : RefusalKeeps flat flatSound.sound
+  pub refused-lock : RefusalKeeps lock lockSound.sound
+  pub refused-counting : RefusalKeeps count.counting countingSound.sound
+  pub refused-flag : RefusalKeeps flag flagSound.sound
   -- "A made-up machine state is tested and, if not sound, refused."
-  pub made-up-flat : MadeUpRefused flat flatSound.sound
-  pub made-up-lock : MadeUpRefused lock lockSound.sound
-  pub made-up-counting : MadeUpRefused count.counting countingSound.sound
-  pub made-up-flag : MadeUpRefused flag flagSound.sound
-
--- "A refused step leaves the state that stood before it and the log of the steps before it": the fields state and log of `Exact`, below
+  pub made-up-flat : MadeUpRefused flat flatSound.sound (λ s. (length (s .clients) ≡ limit.clients) × (length (s .elems) ≡ limit.clients)) flatTo.Sound
+  pub made-up-lock : MadeUpRefused lock lockSound.sound (λ s. length (s .cells) ≡ limit.width) lockTo.Sound
+  pub made-up-counting : MadeUpRefused count.counting countingSound.sound (λ s. Unit {0}) countingTo.Sound
+  pub made-up-flag : MadeUpRefused flag flagSound.sound (λ s. length (s .places) ≡ limit.threads) flagTo.Sound
 
 -- ---------- 2
 
@@ -113,7 +128,7 @@ pub record Replays {m : Machine} (o : Sourced m) (bytes : m .Entry → List ℕ)
   -- the log is that of the history of the accepted steps, of which demand 3 speaks
   pub history : said .log ≡ logOf (past m [] s₀ (take (said .place) xs))
 
--- a single step on a sound state, with a log buffer of document 01's size: 0 exactly when it is enabled, and then what the step does
+-- a single step on a sound state, with a log buffer of the scope's size: 0 exactly when it is enabled, and then what the step does
 pub record SingleExact {m : Machine} (o : Sourced m) (Good : m .State → Type 0) (sound : m .State → Bool) : Type 0 where
   pub enabled : (s : m .State) (x : m .Step) (log : List ℕ) → limit.entry ≤ length log → Good s → single m sound limit.entry s (some x) log .code ≡ 0 → o .Enabled s x
   pub does : (s : m .State) (x : m .Step) (log : List ℕ) → limit.entry ≤ length log → Good s → o .Enabled s x
@@ -121,11 +136,17 @@ pub record SingleExact {m : Machine} (o : Sourced m) (Good : m .State → Type 0
 
 pub record Demand2 (f log image : List ℕ) : Type 0 where
   -- "A step is accepted exactly when its transition in the source is enabled and the counter limit of document 01 isn't reached, and it then does what
-  -- the source says": of every sound state, and all that a schedule reaches are sound
+  -- the source says": of every sound state
   pub step-flat : Upholds flatCombine flatTo.Sound
   pub step-lock : Upholds distRwLock lockTo.Sound
   pub step-counting : Upholds countingPermissions (λ s. countingSound.sound s ≡ true)
   pub step-flag : Upholds helping flagTo.Sound
+  -- and all that a schedule reaches are sound: fresh machines are, and `Upholds` says that accepted steps keep it
+  pub fresh-flat : (n : ℕ) → n ≤ limit.clients → flatTo.Sound (emptyFlat n)
+  pub fresh-lock : (w t : ℕ) → 1 ≤ w → w ≤ limit.width → lockTo.Sound (freshState w t)
+  pub fresh-counting : countingSound.sound count.freshState ≡ true
+  pub fresh-flag : (n : ℕ) (v : Bool) → 1 ≤ n → n ≤ limit.threads → flagTo.Sound (emptyFlag n v)
+  -- single steps likewise
   pub single-flat : SingleExact flatCombine flatTo.Sound flatSound.sound
   pub single-lock : SingleExact distRwLock lockTo.Sound lockSound.sound
   pub single-counting : SingleExact countingPermissions (λ s. countingSound.sound s ≡ true) countingSound.sound
@@ -148,7 +169,7 @@ pub record Demand3 (f : List ℕ) : Type 0 where
   -- "no writer guard stands beside a reader guard, and each reader guard carries the record of the latest writer release, or the initial one"
   pub guards : (w t : ℕ) (xs ys zs : List LockStep) → decode f ≡ good (ofLock w t xs) → xs ≡ ys ++ zs → AllEnabled distRwLock (freshState w t) ys
       → lockDemand.Demand t (past lock [] (freshState w t) ys)
-  -- document 01: "a cell equals its accepted shared_starts less its accepted shared_releases"
+  -- the scope: "a cell equals its accepted shared_starts less its accepted shared_releases"
   pub cells : (w t : ℕ) (xs ys zs : List LockStep) → decode f ≡ good (ofLock w t xs) → xs ≡ ys ++ zs → AllEnabled distRwLock (freshState w t) ys
       → let h = past lock [] (freshState w t) ys in (r : ℕ) → cell (after lock (freshState w t) ys) r .count + lockDemand.releases h r ≡ lockDemand.starts h r
   -- "a client's k-th answer belongs to its k-th request, with that request's id and the payload of the one combiner send made for it"

@@ -40,11 +40,11 @@ pub record NoImposter (r : Replayer) : Type 0 where
   pub constant : (a : Answer) → ((f log image : List ℕ) → r f log image .answer ≡ a) → ⊥
   -- it moves nothing: a file of one accepted step leaves the image of a file of none
   pub moves-nothing : (on r sent .image ≡ on r noSteps .image) → ⊥
-  -- it applies all at step one, and idles afterwards: P3's first step leaves what all of P3 leaves; or a refused P5 leaves more than its first step
+  -- it applies all at step one, and idles afterwards: P3's first step leaves what all of P3 leaves. And a refused P5 leaves what its first step does
   pub all-at-step-one : (on r sent .image ≡ on r (p03 .file) .image) → ⊥
-  pub idles-afterwards : on r (p05 .file) .image ≡ on r sent .image
-  -- it invents an index: P5 is refused at its step 1, and at no other
-  pub invented-index : (k : ℕ) → on r (p05 .file) .answer .place ≡ k → k ≡ 1
+  pub refused-step-moves-nothing : on r (p05 .file) .image ≡ on r sent .image
+  -- it invents an index: P5 is refused at its step 1
+  pub index-is-the-steps : on r (p05 .file) .answer .place ≡ 1
   -- its log is empty, or made up: P3 logs its one answer, and nothing else
   pub empty-log : ((f log image : List ℕ) → r f log image .answer .logged ≡ 0) → ⊥
-  pub invented-log : (bs : List ℕ) → on r (p03 .file) .log ≡ bs → bs ≡ 9 ∷ 0 ∷ 0 ∷ 0 ∷ 0 ∷ 7 ∷ 0 ∷ 0 ∷ 0 ∷ 99 ∷ replicate 40 0
+  pub log-is-the-answer : on r (p03 .file) .log ≡ 9 ∷ 0 ∷ 0 ∷ 0 ∷ 0 ∷ 7 ∷ 0 ∷ 0 ∷ 0 ∷ 99 ∷ replicate 40 0

@@ -1,4 +1,4 @@
--- What any bytes are answered, with any two buffers: document 01's codes over the decoded file. Assumes nothing.
+-- What any bytes are answered, with any two buffers: the scope's codes over the decoded file. Assumes nothing.
 use mathlib.Core.Bool.{cond}
 use mathlib.Core.List.{List}
 use Prim.Native.Nat.{ℕ, _+_}

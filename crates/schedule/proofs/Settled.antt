@@ -2,7 +2,10 @@
 use mathlib.Core.Path.{_≡_, sym, _∙_}
 use mathlib.Core.List.{List}
 use Prim.Native.Nat.{ℕ}
-use Rattle.schedule.specs.Widths.{lengthOf}
+use native.Mathlib.Omega.{arith}
+use lib.ListN.{length}
+use lib.Seq.{ext-getD}
+use Rattle.schedule.specs.Widths.{lengthOf, RowOf}
 use Rattle.schedule.specs.Language.{stepAt}
 use Rattle.schedule.specs.Spelling.{flat, lock, counting, flag}
 use Rattle.schedule.specs.Reading.{measuredAt}
@@ -36,6 +39,10 @@ front-settled f = settled
 
 pub length-of-settled : (kind tag : ℕ) {r q : ℕ} → r ≡ lengthOf kind tag → q ≡ lengthOf kind tag → r ≡ q
 length-of-settled kind tag = settled
+
+-- rows of nine, as the answer's type says
+pub row-of-settled : (kind : ℕ) (r q : List ℕ) → length r ≡ 9 → length q ≡ 9 → RowOf kind r → RowOf kind q → r ≡ q
+row-of-settled kind r q a b x y = ext-getD 0 r q (a ∙ sym b) (λ i h. x .at i (omega (arith, h)) ∙ sym (y .at i (omega (arith, h))))
 
 pub measure-settled : (kind : ℕ) (f : List ℕ) (at : ℕ) {r q : Measured} → r ≡ measuredAt kind f at → q ≡ measuredAt kind f at → r ≡ q
 measure-settled kind f at = settled

@@ -1,4 +1,4 @@
--- The number of each answer: document 01, "Codes". Tests go by rising number. Assumes nothing.
+-- The number of each answer: the scope, "Codes". Tests go by rising number. Assumes nothing.
 use Prim.Native.Nat.{ℕ}
 
 -- all steps accepted

@@ -1,4 +1,4 @@
--- A file up to its first step: document 01, codes 1 to 5, in rising order. Assumes nothing.
+-- A file up to its first step: the scope, codes 1 to 5, in rising order. Assumes nothing.
 use Prim.Native.Nat.{ℕ, _-_}
 use mathlib.Core.Bool.{Bool, cond, not}
 use mathlib.Core.List.{List}
@@ -14,7 +14,7 @@ use Rattle.schedule.specs.declared.front.Fault.the-variants.{Length, Ver
 use Rattle.schedule.specs.declared.front.Opened.{Opened}
 use Rattle.schedule.specs.declared.front.Opened.the-variants.{Faulty, Open}
 
--- document 01's number and place of each fault
+-- the scope's number and place of each fault
 abbrev pub faultCode : Fault → ℕ
 faultCode Length = code.length
 faultCode Version = code.version

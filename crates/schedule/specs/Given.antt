@@ -1,4 +1,4 @@
--- When each fault is given: document 01's table of codes 1 to 7, "given exactly when", line by line. Proved in proofs/Given.antt. Assumes nothing.
+-- When each fault is given: the scope's table of codes 1 to 7, "given exactly when", line by line. Proved in proofs/Given.antt. Assumes nothing.
 use mathlib.Core.Path.{_≡_}
 use mathlib.Core.Logic.{_⊎_}
 use mathlib.Core.List.{List}

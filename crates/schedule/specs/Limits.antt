@@ -1,4 +1,4 @@
--- How large anything may be: document 01, "Port order and sizes". Assumes nothing.
+-- How large anything may be: the scope, "Port order and sizes". Assumes nothing.
 use Prim.Native.Nat.{ℕ}
 
 -- clients 0 to 16, lock width 1 to 16, threads 1 to 8

@@ -1,4 +1,4 @@
--- The tags and numbers of each kind's steps: document 01's table, row by row. Assumes nothing.
+-- The tags and numbers of each kind's steps: the scope's table, row by row. Assumes nothing.
 use Prim.Native.Nat.{ℕ}
 use mathlib.Core.Bool.{cond}
 use mathlib.Core.List.{List, [], _∷_}

@@ -1,4 +1,4 @@
--- What a step is made of: the width of its tag and of each of its numbers, by kind and tag. Document 01, "The schedule file". Assumes nothing.
+-- What a step is made of: the width of its tag and of each of its numbers, by kind and tag. The scope, "The schedule file". Assumes nothing.
 use mathlib.Core.Path.{_≡_}
 use Prim.Native.Nat.{ℕ, _+_, _<_}
 use mathlib.Core.List.{List, [], _∷_}
