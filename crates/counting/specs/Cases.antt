@@ -2,7 +2,7 @@
 -- accepted, and for each of its tests one that this test refuses. Proved by one claim, in proofs/Tabled.antt. Assumes nothing.
 use Prim.Native.Nat.{ℕ}
 use mathlib.Core.Path.{_≡_}
-use mathlib.Core.Bool.{Bool, true, false, cond, _&&_}
+use mathlib.Core.Bool.{Bool, true, false, cond, not, _&&_}
 use mathlib.Core.List.{List, [], _∷_}
 use lib.Dec.{eqb}
 use Rattle.rows.specs.Bytes.{alike}
@@ -70,5 +70,13 @@ right c =
     eqb (codeOf counting s x) (c .code)
     && (alike (imageBytes (if-accepted c (next s x) s)) (c .image) && alike (pieces entryBytes (if-accepted c (logs s x) [])) (c .log))
 
+-- rows with one thing wrong in each, the code, the image, the log: `right` says no to all of them, so it looks at all three
+abbrev pub wrongs : List Case
+wrongs =
+    case freshState (WriteableToReadable 5) 12 (1 ∷ 0 ∷ 0 ∷ 0 ∷ 5 ∷ 0 ∷ 0 ∷ []) []
+    ∷ case freshState (WriteableToReadable 5) 0 (1 ∷ 0 ∷ 0 ∷ 0 ∷ 6 ∷ 0 ∷ 0 ∷ []) []
+    ∷ case (storing 5 0) NewRef 0 (1 ∷ 0 ∷ 0 ∷ 0 ∷ 5 ∷ 1 ∷ 1 ∷ []) []
+    ∷ []
+
 abbrev pub Tabled : Type 0
-Tabled = every (λ i c. right c) 0 cases ≡ true
+Tabled = (every (λ i c. right c) 0 cases && every (λ i c. not (right c)) 0 wrongs) ≡ true

@@ -3,7 +3,7 @@
 -- whole runs. Proved by one claim, in proofs/Tabled.antt. Assumes nothing.
 use Prim.Native.Nat.{ℕ}
 use mathlib.Core.Path.{_≡_}
-use mathlib.Core.Bool.{Bool, true, false, cond, _&&_}
+use mathlib.Core.Bool.{Bool, true, false, cond, not, _&&_}
 use mathlib.Core.List.{List, [], _∷_}
 use lib.Dec.{eqb}
 use lib.ListN.{length, replicate}
@@ -174,6 +174,27 @@ right-whole c =
     let r = replay flag (c .given) 0 (c .steps) in
     (eqb (r .code) (c .code) && eqb (r .place) (c .place)) && (alike (imageBytes (r .state)) (c .image) && alike (pieces entryBytes (r .log)) (c .log))
 
+-- rows with one thing wrong in each: the tests say no to all of them, so they look at everything that a row has
+abbrev pub wrong-starts : List Start
+wrong-starts = start 1 false 5 (0 ∷ 0 ∷ 0 ∷ []) ∷ start 1 false 0 (1 ∷ 0 ∷ 0 ∷ []) ∷ []
+
+abbrev pub wrong-cases : List Case
+wrong-cases =
+    case (standing false 0 (0 ∷ [])) (Read 0) 12 (0 ∷ 0 ∷ 0 ∷ []) (3 ∷ 2 ∷ 0 ∷ 0 ∷ [])
+    ∷ case (standing false 0 (0 ∷ [])) (Read 0) 0 (1 ∷ 0 ∷ 0 ∷ []) (3 ∷ 2 ∷ 0 ∷ 0 ∷ [])
+    ∷ case (standing false 0 (0 ∷ [])) (Read 0) 0 (0 ∷ 0 ∷ 0 ∷ []) []
+    ∷ []
+
+abbrev pub wrong-runs : List Whole
+wrong-runs =
+    wholly two (Read 0 ∷ []) 12 1 (0 ∷ 0 ∷ 0 ∷ 0 ∷ []) (3 ∷ 2 ∷ 0 ∷ 0 ∷ [])
+    ∷ wholly two (Read 0 ∷ []) 0 2 (0 ∷ 0 ∷ 0 ∷ 0 ∷ []) (3 ∷ 2 ∷ 0 ∷ 0 ∷ [])
+    ∷ wholly two (Read 0 ∷ []) 0 1 (1 ∷ 0 ∷ 0 ∷ 0 ∷ []) (3 ∷ 2 ∷ 0 ∷ 0 ∷ [])
+    ∷ wholly two (Read 0 ∷ []) 0 1 (0 ∷ 0 ∷ 0 ∷ 0 ∷ []) []
+    ∷ []
+
 abbrev pub Tabled : Type 0
 Tabled =
-    (every (λ i c. right-start c) 0 starts && (every (λ i c. right c) 0 cases && every (λ i c. right-whole c) 0 runs)) ≡ true
+    (every (λ i c. right-start c) 0 starts && (every (λ i c. right c) 0 cases && (every (λ i c. right-whole c) 0 runs
+    && (every (λ i c. not (right-start c)) 0 wrong-starts && (every (λ i c. not (right c)) 0 wrong-cases && every (λ i c. not (right-whole c)) 0 wrong-runs)))))
+    ≡ true

@@ -2,7 +2,7 @@
 -- one that is accepted, and for each of its tests one that this test refuses. Proved by one claim, in proofs/Tabled.antt. Assumes nothing.
 use Prim.Native.Nat.{ℕ}
 use mathlib.Core.Path.{_≡_}
-use mathlib.Core.Bool.{Bool, true, false, _&&_}
+use mathlib.Core.Bool.{Bool, true, false, not, _&&_}
 use mathlib.Core.List.{List, [], _∷_, _++_}
 use lib.Dec.{eqb}
 use lib.ListN.{length, take, replicate}
@@ -252,7 +252,22 @@ started c =
 abbrev allRight : List Case → Bool
 allRight cs = every (λ i c. right c) 0 cs
 
+-- rows with one thing wrong in each, the last with a request kept where none is asked, which no image shows: the tests say no to all of them
+abbrev wrongs : List Case
+wrongs =
+    runs (collecting (answered 7 9 ∷ []) []) (ClientRecv 0 ∷ []) 12 1 (zeros 28) (9 ∷ 0 ∷ four 7 ++ four 9)
+    ∷ runs (collecting (answered 7 9 ∷ []) []) (ClientRecv 0 ∷ []) 0 2 (zeros 28) (9 ∷ 0 ∷ four 7 ++ four 9)
+    ∷ runs (collecting (answered 7 9 ∷ []) []) (ClientRecv 0 ∷ []) 0 1 (zeros 27) (9 ∷ 0 ∷ four 7 ++ four 9)
+    ∷ runs (collecting (answered 7 9 ∷ []) []) (ClientRecv 0 ∷ []) 0 1 (zeros 28) []
+    ∷ runs (collecting (record { rid = 0; req = 9; resp = 0; waiting = false; asked = false; told = false; slot = false } ∷ []) []) (CombinerSkip ∷ []) 0 1
+    (zeros 27 ++ (1 ∷ zeros 5)) []
+    ∷ []
+
+abbrev wrongStarts : List Start
+wrongStarts = record { clients = 1; code = 5; image = zeros 28 } ∷ record { clients = 1; code = 0; image = zeros 27 } ∷ []
+
 abbrev pub Tabled : Type 0
 Tabled =
     (every (λ i c. started c) 0 starts
-    && (allRight clientSends && (allRight clientRecvs && (allRight combinerGathers && (allRight combinerResponds && allRight wholeRuns))))) ≡ true
+    && (allRight clientSends && (allRight clientRecvs && (allRight combinerGathers && (allRight combinerResponds && (allRight wholeRuns
+    && (every (λ i c. not (right c)) 0 wrongs && every (λ i c. not (started c)) 0 wrongStarts))))))) ≡ true

@@ -2,7 +2,7 @@
 -- are accepted, and for each of its tests one that this test refuses. Proved by one claim, in proofs/Tabled.antt. Assumes nothing.
 use Prim.Native.Nat.{ℕ, _+_, _-_}
 use mathlib.Core.Path.{_≡_}
-use mathlib.Core.Bool.{Bool, true, false, cond, _&&_}
+use mathlib.Core.Bool.{Bool, true, false, cond, not, _&&_}
 use mathlib.Core.List.{List, [], _∷_, _++_}
 use lib.Dec.{eqb}
 use lib.ListN.{length, replicate}
@@ -186,5 +186,21 @@ right c =
 abbrev pub made : Asked → Bool
 made a = let m = freshOf (a .width) (a .t) in eqb (m .code) (a .code) && alike (imageBytes (m .state)) (a .image)
 
+-- rows with one thing wrong in each: the tests say no to all of them, so they look at everything that a row has
+abbrev pub wrongCases : List Case
+wrongCases =
+    case (away 1 5 (readers 1 0 ∷ [])) (SharedFinish 0) 12 (0 ∷ 1 ∷ 0 ∷ 0 ∷ 0 ∷ 5 ∷ 0 ∷ 0 ∷ 0 ∷ 1 ∷ 0 ∷ 1 ∷ []) (6 ∷ 2 ∷ 0 ∷ 0 ∷ 0 ∷ 0 ∷ 5 ∷ [])
+    ∷ case (away 1 5 (readers 1 0 ∷ [])) (SharedFinish 0) 0 (0 ∷ 1 ∷ 0 ∷ 0 ∷ 0 ∷ 5 ∷ 0 ∷ 0 ∷ 0 ∷ 1 ∷ 1 ∷ 0 ∷ []) (6 ∷ 2 ∷ 0 ∷ 0 ∷ 0 ∷ 0 ∷ 5 ∷ [])
+    ∷ case (away 1 5 (readers 1 0 ∷ [])) (SharedFinish 0) 0 (0 ∷ 1 ∷ 0 ∷ 0 ∷ 0 ∷ 5 ∷ 0 ∷ 0 ∷ 0 ∷ 1 ∷ 0 ∷ 1 ∷ []) []
+    ∷ []
+
+abbrev pub wrongFresh : List Asked
+wrongFresh =
+    asked 1 5 5 (0 ∷ 1 ∷ 0 ∷ 0 ∷ 0 ∷ 5 ∷ 0 ∷ 0 ∷ 0 ∷ nobody)
+    ∷ asked 1 5 0 (0 ∷ 1 ∷ 0 ∷ 0 ∷ 0 ∷ 6 ∷ 0 ∷ 0 ∷ 0 ∷ nobody)
+    ∷ []
+
 abbrev pub Tabled : Type 0
-Tabled = (every (λ i c. right c) 0 excCases && (every (λ i c. right c) 0 sharedCases && every (λ i a. made a) 0 freshCases)) ≡ true
+Tabled =
+    (every (λ i c. right c) 0 excCases && (every (λ i c. right c) 0 sharedCases && (every (λ i a. made a) 0 freshCases
+    && (every (λ i c. not (right c)) 0 wrongCases && every (λ i a. not (made a)) 0 wrongFresh)))) ≡ true
