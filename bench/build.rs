@@ -1,4 +1,4 @@
-//! Tells the linker where the other engine's static library stands.
+//! Tells the linker where the other engine's static libraries stand: the replayer, and the single step in a library of its own.
 
 use std::env;
 use std::path::PathBuf;
@@ -15,10 +15,10 @@ fn main() {
         Some(given) => package.join(given),
         None => package.join("../target/staticlib"),
     };
-    println!(
-        "cargo:rerun-if-changed={}",
-        folder.join("libbridge.a").display()
-    );
     println!("cargo:rustc-link-search=native={}", folder.display());
-    println!("cargo:rustc-link-lib=static=bridge");
+    for name in ["bridge", "single_call"] {
+        let file = folder.join(format!("lib{name}.a"));
+        println!("cargo:rerun-if-changed={}", file.display());
+        println!("cargo:rustc-link-lib=static={name}");
+    }
 }

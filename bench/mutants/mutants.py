@@ -27,8 +27,9 @@ ABOVE = {
     "flat": ["flat_run"],
     "schedule": ["counting", "lock", "flag", "flat", "counting_run", "lock_run", "flag_run", "flat_run", "replayer"],
 }
+ABOVE["machine"] = ["schedule"] + ABOVE["schedule"]
 # What an entry of a table of examples starts with.
-EXAMPLES = ("case ", "asked ", "refuses ", "does ", "runs ", "start ", "wholly ")
+EXAMPLES = ("does ", "refuses ", "refusesUnsound ", "runs ", "starts ")
 NUMBERS = {"u8", "u16", "u32", "u64", "usize"}
 
 # edits: (start, end, text) spans of the file, not overlapping; names: what the changed text needs imported; was, now: the changed lines
@@ -135,8 +136,9 @@ def src_integers(text):
 def constants():
     """module -> type -> names, of the modules that hold nothing but constants."""
     found = {}
-    for module in ["codes", "limits", "kinds"]:
-        text = (ROOT / "crates/schedule/src" / f"{module}.rt").read_text()
+    for module in ["machine/src/codes", "schedule/src/limits", "schedule/src/kinds"]:
+        text = (ROOT / "crates" / f"{module}.rt").read_text()
+        module = module.rsplit("/", 1)[1]
         for name, type_ in re.findall(r"pub const (\w+): (\w+)", text):
             found.setdefault(module, {}).setdefault(type_, []).append(name)
     return found

@@ -15,6 +15,5 @@ pub struct Answer {
 #[derive(Clone, Copy, Debug, PartialEq, Eq)]
 pub struct Single {
     pub code: u8,
-    pub place: usize,
     pub logged: usize,
 }

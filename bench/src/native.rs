@@ -12,8 +12,8 @@ mod over_c {
             log_len: usize,
             image: *mut u8,
             image_len: usize,
-            told: *mut u8,
-            told_len: usize,
+            figures: *mut u8,
+            figures_len: usize,
         ) -> u8;
         fn ladlecomet_single(
             kind: u8,
@@ -23,20 +23,20 @@ mod over_c {
             step_len: usize,
             log: *mut u8,
             log_len: usize,
-            told: *mut u8,
-            told_len: usize,
+            figures: *mut u8,
+            figures_len: usize,
         ) -> u8;
     }
 
-    /// The number at place `at` of what was told, each 4 bytes long.
-    fn told_number(told: &[u8], at: usize) -> usize {
-        told[4 * at..][..4]
+    /// The figure at place `at`, each 4 bytes long.
+    fn figure(figures: &[u8], at: usize) -> usize {
+        figures[4 * at..][..4]
             .iter()
             .fold(0, |number, &byte| number << 8 | usize::from(byte))
     }
 
     pub fn replay(file: &[u8], log: &mut [u8], image: &mut [u8]) -> Answer {
-        let mut told = [0; 12];
+        let mut figures = [0; 12];
         // SAFETY: every pointer comes with the length of the slice it is taken
         // from, the slices live through the call, and the written ones are
         // lent for writing and don't overlap.
@@ -48,20 +48,20 @@ mod over_c {
                 log.len(),
                 image.as_mut_ptr(),
                 image.len(),
-                told.as_mut_ptr(),
-                told.len(),
+                figures.as_mut_ptr(),
+                figures.len(),
             )
         };
         Answer {
             code,
-            place: told_number(&told, 0),
-            logged: told_number(&told, 1),
-            imaged: told_number(&told, 2),
+            place: figure(&figures, 0),
+            logged: figure(&figures, 1),
+            imaged: figure(&figures, 2),
         }
     }
 
     pub fn single(kind: u8, state: &mut [u8], step: &[u8], log: &mut [u8]) -> Single {
-        let mut told = [0; 8];
+        let mut figures = [0; 4];
         // SAFETY: as above.
         let code = unsafe {
             ladlecomet_single(
@@ -72,14 +72,13 @@ mod over_c {
                 step.len(),
                 log.as_mut_ptr(),
                 log.len(),
-                told.as_mut_ptr(),
-                told.len(),
+                figures.as_mut_ptr(),
+                figures.len(),
             )
         };
         Single {
             code,
-            place: told_number(&told, 0),
-            logged: told_number(&told, 1),
+            logged: figure(&figures, 0),
         }
     }
 }

@@ -21,12 +21,10 @@ pub fn single(kind: u8, state: &mut [u8], step: &[u8], log: &mut [u8]) -> Single
     match outcome {
         Ok(logged) => Single {
             code: Code::Accepted as u8,
-            place: 0,
             logged,
         },
         Err(code) => Single {
             code: code as u8,
-            place: 0,
             logged: 0,
         },
     }

@@ -1,82 +1,38 @@
-// The replayer for programs in other languages: functions on numbers and byte slices, exported under their plain names. Nothing is asked of a
-// caller but that the slices are there.
-use schedule::codes;
+// The replayer for programs in other languages: a function on numbers and byte slices, exported under its plain name. Nothing is asked of a caller
+// but that the slices are there.
+use machine::codes;
 ghost use Prim.Native.Nat.{_≤_};
-ghost use mathlib.Core.List.{_++_};
 ghost use lib.ListN.{length};
-ghost use Rattle.rows.specs.Bytes.{big};
 ghost use Rattle.rows.specs.Stores.{Laid};
-ghost use Rattle.bridge.specs.Called.{three, replayCalled, ReplayLeaves, singleCalled, SingleLeaves};
+ghost use Rattle.bridge.specs.Called.{three, called, CallLeaves};
 
-// A whole file: the code is answered, and `told` gets the place and the lengths of log and image, four bytes each, big-endian. With less room
-// than that nothing is done and the answer is 8.
+// What a whole file answers besides its code: the place and the lengths of log and image, four bytes each.
+const FIGURES: usize = 12;
+
+// A whole file: the code is answered, and `figures` gets the place and the lengths of log and image, big-endian. With less room than that nothing is
+// done and the answer is 8.
 #[no_mangle]
 pub extern "C" fn ladlecomet_replay(
     file: &[u8],
     log: &mut [u8],
     image: &mut [u8],
-    told: &mut [u8],
+    figures: &mut [u8],
 ) -> u8
-    ensures { λ r. ⌜ ReplayLeaves (replayCalled (now (file .entry)) (now (log .entry)) (now (image .entry)) (now (told .entry))) r (now (log .exit)) (now (image .exit)) (now (told .exit)) ⌝ }
+    ensures { λ r. ⌜ CallLeaves (called (now (file .entry)) (now (log .entry)) (now (image .entry)) (now (figures .entry))) r (now (log .exit)) (now (image .exit)) (now (figures .exit)) ⌝ }
 {
-    if told.len() < 12 {
+    if figures.len() < FIGURES {
         return codes::ROOM;
     }
     let a = replayer::replay(file, log, image);
-    tell_three(told, a.place, a.logged, a.imaged);
+    put_figures(figures, a.place, a.logged, a.imaged);
     a.code
 }
 
-// A single step on a made-up state: `state` is a raw state of the kind, `step` one byte for the step's kind and the step as it stands in a file. The
-// code is answered, and `told` gets the place, always 0, and the entry's length. With less room than that nothing is done and the answer is 8.
-#[no_mangle]
-pub extern "C" fn ladlecomet_single(
-    kind: u8,
-    state: &mut [u8],
-    step: &[u8],
-    log: &mut [u8],
-    told: &mut [u8],
-) -> u8
-    ensures { λ r. ⌜ SingleLeaves (singleCalled kind (now (state .entry)) (now (step .entry)) (now (log .entry)) (now (told .entry))) r (now (state .exit)) (now (log .exit)) (now (told .exit)) ⌝ }
+fn put_figures(figures: &mut [u8], place: usize, logged: usize, imaged: usize) -> usize
+    requires { ⌜ 12 ≤ length (now figures) ⌝ }
+    ensures { λ r. ⌜ Laid (now (figures .entry)) 0 (three place logged imaged) r (now (figures .exit)) ⌝ }
 {
-    if told.len() < 8 {
-        return codes::ROOM;
-    }
-    let c = single_call::single_call(kind, state, step, log);
-    tell_two(told, 0, c.logged);
-    c.code
-}
-
-fn tell_two(told: &mut [u8], a: usize, b: usize) -> usize
-    requires { ⌜ 8 ≤ length (now told) ⌝ }
-    ensures { λ r. ⌜ Laid (now (told .entry)) 0 (big 4 a ++ big 4 b) r (now (told .exit)) ⌝ }
-{
-    let p = tell(told, 0, a);
-    tell(told, p, b)
-}
-
-fn tell_three(told: &mut [u8], a: usize, b: usize, c: usize) -> usize
-    requires { ⌜ 12 ≤ length (now told) ⌝ }
-    ensures { λ r. ⌜ Laid (now (told .entry)) 0 (three a b c) r (now (told .exit)) ⌝ }
-{
-    let p = tell(told, 0, a);
-    let q = tell(told, p, b);
-    tell(told, q, c)
-}
-
-// The last four bytes of a number.
-fn tell(told: &mut [u8], at: usize, n: usize) -> usize
-    ensures { λ r. ⌜ Laid (now (told .entry)) at (big 4 n) r (now (told .exit)) ⌝ }
-{
-    if told.len() < 4 {
-        return at;
-    }
-    if told.len() - 4 < at {
-        return at;
-    }
-    told[at] = (n / 256 / 256 / 256 % 256) as u8;
-    told[at + 1] = (n / 256 / 256 % 256) as u8;
-    told[at + 2] = (n / 256 % 256) as u8;
-    told[at + 3] = (n % 256) as u8;
-    at + 4
+    let p = rows::put_last4(figures, 0, place);
+    let q = rows::put_last4(figures, p, logged);
+    rows::put_last4(figures, q, imaged)
 }

@@ -5,10 +5,10 @@ use Prim.Native.Nat.{ℕ, _≤_, _<_}
 use native.Mathlib.Omega.{arith}
 use lib.ListN.{length}
 use lib.Seq.{length-take-le}
-use Rattle.lines.specs.Lines.{Counts}
+use Rattle.lines.specs.Lines.{InFront}
 
-pub counted : (buffer : List ℕ) (n : ℕ) → n < length buffer → Counts n buffer
+pub counted : (buffer : List ℕ) (n : ℕ) → n < length buffer → InFront n buffer
 counted buffer n h = (omega arith, sym (length-take-le n buffer (omega arith)))
 
-pub counted-all : (buffer : List ℕ) (n : ℕ) → n ≡ length buffer → Counts n buffer
+pub counted-all : (buffer : List ℕ) (n : ℕ) → n ≡ length buffer → InFront n buffer
 counted-all buffer n e = (omega arith, sym (length-take-le n buffer (omega arith)))

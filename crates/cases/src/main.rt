@@ -5,7 +5,7 @@ use libc::STDOUT_FILENO;
 use lines::verdict;
 use schedule::answer::Answer;
 use schedule::limits;
-ghost use Rattle.lines.specs.Lines.{Counts};
+ghost use Rattle.lines.specs.Lines.{InFront};
 
 // what both buffers hold before, and the longest that a case asks for
 const PATTERN: u8 = 170;
@@ -103,7 +103,7 @@ fn kept(buffer: &[u8], from: usize) -> bool {
 
 // n, or the buffer's length where that is less.
 fn at_most(n: usize, buffer: &[u8]) -> usize
-    ensures { λ r. ⌜ Counts r (now (buffer .entry)) ⌝ }
+    ensures { λ r. ⌜ InFront r (now (buffer .entry)) ⌝ }
 {
     if n < buffer.len() {
         return n;

@@ -1,8 +1,6 @@
--- Demand 3's share: the state after a history is told by counts of the history, so that every history from the fresh machine meets the demand, and
--- every state on the way is sound. Assumes nothing.
+-- Demand 3's share: the state after a history is told by counts of the history, so that every history from the fresh machine meets the demand. Assumes nothing.
 use Prim.Native.Nat.{ℕ, _+_, _-_, _≤_}
 use mathlib.Core.Path.{_≡_, refl, sym, _∙_, ap}
-use mathlib.Core.Bool.{true}
 use mathlib.Core.List.{List, [], _∷_, _++_}
 use mathlib.Core.Option.{some}
 use native.Mathlib.Omega.{arith}
@@ -17,20 +15,20 @@ use Rattle.machine.proofs.Multisets.{only, insert-at-only}
 use Rattle.schedule.specs.declared.steps.CountingStep.{CountingStep}
 use Rattle.schedule.specs.declared.steps.CountingStep.the-variants.{WriteableToReadable, ReadableToWriteable, NewRef, DeleteRef}
 use Rattle.counting.specs.Counting.{counting, freshState, next}
-use Rattle.counting.specs.Sound.{sound}
-use Rattle.counting.specs.Refined.{abs}
-use Rattle.counting.specs.Demand.{Hist, granted, deleted, Held, stored, Demand, Demanded}
+use Rattle.counting.specs.Refined.{abs, Sound}
+use Rattle.counting.specs.Demand.{Hist, granted, deleted, Held, stored, Demanded}
 use Rattle.counting.specs.declared.state.State.{State}
 use Rattle.counting.specs.declared.entry.Entry.{Entry}
 use Rattle.counting.specs.declared.entry.Entry.the-variants.{Withdrawn, Granted}
 use Rattle.counting.proofs.Inductive.{compare-refs, read-ref-guards}
-use Rattle.counting.proofs.Sounds.{only-none, none-same, sound-told, fresh-sound, sound-away, sound-zero}
-use Rattle.counting.proofs.Refines.{accepted-sound, accepted-logs}
+use Rattle.counting.proofs.Sounds.{only-none, none-same, sound-means, fresh-sound, counted-none}
+use Rattle.counting.proofs.Kept.{accepted-sound}
+use Rattle.counting.proofs.Posts.{accepted-logs}
 
 -- ---------- the state as counts of the history
 
 pub record Inv (h : Hist) (s : State) : Type 0 where
-  pub right : sound s ≡ true
+  pub right : Sound s
   -- of each value: handed out are those given back and those that the state still counts
   pub flow : (u : ℕ) → granted h u ≡ deleted h u + only (s .t) (s .refs) u
   pub store : stored h ≡ abs s .stored
@@ -47,13 +45,13 @@ keep : (h : Hist) (s : State) (x : CountingStep) → Inv h s → Accepted counti
 keep h s (WriteableToReadable t) i a =
     record {
       right = accepted-sound s (WriteableToReadable t) (i .right) a;
-      flow = flow-none h s t i (sound-away s (i .right) (not-true (s .present) (a .0)));
+      flow = flow-none h s t i (i .right .unused (not-true (s .present) (a .0)) .2);
       store = refl;
     }
 keep h s ReadableToWriteable i a =
     record {
       right = accepted-sound s ReadableToWriteable (i .right) a;
-      flow = flow-none h s 0 i (sound-zero s (i .right) (a .0) (a .1 .0));
+      flow = flow-none h s 0 i (counted-none s (i .right) (a .0) (a .1 .0));
       store = refl;
     }
 keep h s NewRef i a =
@@ -71,13 +69,10 @@ keep h s (DeleteRef t) i a =
     }
 
 fresh : Inv [] freshState
-fresh = record { right = fresh-sound; flow = λ u. rw (only-none 0 u); store = refl }
+fresh = record { right = sound-means freshState fresh-sound; flow = λ u. rw (only-none 0 u); store = refl }
 
 pub run-inv : {h : Hist} {s : State} → Run counting freshState h s → Inv h s
 run-inv r = always counting freshState Inv fresh keep r
-
-pub every-prefix-sound : {h : Hist} {s : State} → Run counting freshState h s → sound s ≡ true
-every-prefix-sound r = run-inv r .right
 
 -- ---------- what is held
 
@@ -86,10 +81,10 @@ module _ (h : Hist) (s : State) (i : Inv h s) where
   held u l = omega (arith, i .flow u)
 
   held-stored : (u : ℕ) → Held h u → stored h ≡ some u
-  held-stored u l = i .store ∙ read-ref-guards (abs s) (sound-told s (i .right) .inv) u (held u l)
+  held-stored u l = i .store ∙ read-ref-guards (abs s) (i .right .inv) u (held u l)
 
   held-equal : (u v : ℕ) → Held h u → Held h v → u ≡ v
-  held-equal u v l k = compare-refs (abs s) (sound-told s (i .right) .inv) u v (held u l) (held v k)
+  held-equal u v l k = compare-refs (abs s) (i .right .inv) u v (held u l) (held v k)
 
   none-held : s .refs ≡ 0 → (u : ℕ) → deleted h u ≡ granted h u
   none-held z u = omega (arith, rw z at (i .flow u), only-none (s .t) u)
@@ -104,7 +99,7 @@ module _ (h later before : Hist) (s : State) (es : List Entry) (r : Run counting
       let l = last counting freshState ReadableToWriteable refl (e .1) in
       let i = run-inv (l .1) in
       let k = accepted-logs (l .0) ReadableToWriteable (i .right) (l .2) in
-      (k .0, i .store ∙ k .1, sym (l .4) ∙ k .2, none-held before (l .0) i (sound-zero (l .0) (i .right) (l .2 .0) (l .2 .1 .0)))
+      (k .0, i .store ∙ k .1, sym (l .4) ∙ k .2, none-held before (l .0) i (counted-none (l .0) (i .right) (l .2 .0) (l .2 .1 .0)))
 
   handed-out : h ≡ later ++ (record { did = NewRef; wrote = es } ∷ before) → (t : ℕ) × (stored before ≡ some t) × (es ≡ Granted t ∷ [])
   handed-out q =
@@ -123,7 +118,3 @@ demanded h s r =
       withdrawn = λ later before es. withdrawn h later before s es r;
       handed-out = λ later before es. handed-out h later before s es r;
     }
-
--- and so does every part of it from the fresh machine on
-pub demanded-before : (later h : Hist) (s : State) → Run counting freshState (later ++ h) s → Demand h
-demanded-before later h s r = let e = earlier counting freshState later r in demanded h (e .0) (e .1)

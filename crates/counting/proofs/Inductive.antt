@@ -9,8 +9,11 @@ use borrow.Author.Tests.{eqb-true, eqb-false}
 use Rattle.rows.proofs.Cases.{on, clash}
 use Rattle.machine.specs.Multiset.{Multiset}
 use Rattle.machine.proofs.Multisets.{insert-here, insert-other, remove-here, remove-other}
-use Rattle.counting.specs.Source as source
-use Rattle.counting.specs.Source.{CountingPermissions, new, main-inv, Writeable-to-readable, Readable-to-writeable, New-ref, Delete-ref, Transition, writeable-to-readable, readable-to-writeable, new-ref, delete-ref, Moves, Safe}
+use Rattle.counting.specs.Source.{CountingPermissions, new, Transition, Moves, Safe}
+use Rattle.counting.specs.Source.{Writeable-to-readable, Readable-to-writeable, New-ref, Delete-ref}
+use Rattle.counting.specs.Source.{writeable-to-readable, readable-to-writeable, new-ref, delete-ref}
+use Rattle.counting.specs.Invariants as invariants
+use Rattle.counting.specs.Invariants.{main-inv}
 
 -- ---------- what the invariant says where the counter is known
 
@@ -55,7 +58,7 @@ uncounted m i e = go (m .stored) (m .main-counter) i e
 
 -- ---------- the properties
 
-pub compare-ref-and-counter : (m : CountingPermissions) → main-inv m → source.compare-ref-and-counter m
+pub compare-ref-and-counter : (m : CountingPermissions) → main-inv m → invariants.compare-ref-and-counter m
 compare-ref-and-counter m i t1 count t2 h e = on (eqb t1 t2)
     (λ b. eqb-true t1 t2 b)
     (λ b. absurd (omega (arith, counted m count t2 i e .elsewhere t1 (eqb-false t1 t2 b))))
@@ -68,13 +71,13 @@ held-counted m t i h = go (m .main-counter) refl
     go none e = absurd (omega (arith, uncounted m i e .nobody t))
     go (some k) e = (k .0, rw (compare-ref-and-counter m i t (k .0) (k .1) h e) e)
 
-pub compare-refs : (m : CountingPermissions) → main-inv m → source.compare-refs m
+pub compare-refs : (m : CountingPermissions) → main-inv m → invariants.compare-refs m
 compare-refs m i t1 t2 h1 h2 = let k = held-counted m t2 i h2 in compare-ref-and-counter m i t1 (k .0) t2 h1 (k .1)
 
-pub read-ref-guards : (m : CountingPermissions) → main-inv m → source.read-ref-guards m
+pub read-ref-guards : (m : CountingPermissions) → main-inv m → invariants.read-ref-guards m
 read-ref-guards m i t h = let k = held-counted m t i h in counted m (k .0) t i (k .1) .store
 
-pub counter-guards : (m : CountingPermissions) → main-inv m → source.counter-guards m
+pub counter-guards : (m : CountingPermissions) → main-inv m → invariants.counter-guards m
 counter-guards m i count t e = counted m count t i e .store
 
 -- ---------- the transitions

@@ -1,14 +1,17 @@
 -- what the functions' proofs cite
-pub mod Writes
 pub mod Moved
-pub mod Answering
--- the source's own proofs, soundness, refinement
-pub mod Inductive
+pub mod Arms
+pub mod Stepping
+pub mod Writes
+-- the machine and its source
 pub mod Sounds
+pub mod Kept
+pub mod Enabling
+pub mod Posts
+pub mod Inductive
 pub mod Refines
--- histories: the demand, and made-up histories that it refuses
+-- demand 3, and the tables
 pub mod Demands
 pub mod Refuted
--- the table of cases, and what each contract settles
 pub mod Tabled
 pub mod Settled

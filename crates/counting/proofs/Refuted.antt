@@ -54,12 +54,9 @@ another-withdrawn d =
     let w = d .withdrawn [] (stores 7 ∷ []) (Withdrawn 8 ∷ []) refl in
     clash (cc)
 
--- a reference that is held carries a value that is no longer stored: another is, or none
+-- a reference that is held carries a value that is no longer stored: another is
 pub outlived-by-another : Demand (stores 8 ∷ hands-out 7 ∷ stores 7 ∷ []) → ⊥
 outlived-by-another d = let e = d .held-stored 7 (omega arith) in clash (cc)
-
-pub outlives : Demand (withdraws 7 ∷ hands-out 7 ∷ stores 7 ∷ []) → ⊥
-outlives d = let e = d .held-stored 7 (omega arith) in clash (cc)
 
 -- a new_ref hands out another value than the one stored
 pub another-handed-out : Demand (hands-out 8 ∷ stores 7 ∷ []) → ⊥

@@ -1,8 +1,7 @@
 -- The test of a state says what soundness means: the source's invariant, the counter's limit, unused entries zero. Assumes nothing.
-use Prim.Native.Nat.{ℕ, _≤_}
+use Prim.Native.Nat.{ℕ}
 use mathlib.Core.Path.{_≡_, refl, sym, _∙_}
 use mathlib.Core.Bool.{Bool, true, false, cond, _&&_}
-use mathlib.Core.Logic.{_↔_}
 use native.Mathlib.Omega.{arith}
 use lib.Dec.{eqb, leb}
 use borrow.Author.Tests.{eqb-true, eq-eqb, leb-true, le-leb}
@@ -13,6 +12,7 @@ use Rattle.counting.specs.Counting.{freshState}
 use Rattle.counting.specs.Sound.{sound}
 use Rattle.counting.specs.Refined.{Sound}
 use Rattle.counting.specs.declared.state.State.{State}
+use Rattle.counting.proofs.Moved.{refs-counted}
 
 -- a state by its entries: a claim by the two cases of `present` is one about every state
 abbrev pub state : Bool → ℕ → ℕ → ℕ → State
@@ -31,27 +31,25 @@ none-same t t′ n z u = rw z (only-none t u ∙ sym (only-none t′ u))
 
 -- ---------- the test says it
 
-there : (t count refs : ℕ) → sound (state true t count refs) ≡ true → (count ≤ limit.counter) × (refs ≡ count)
-there t count refs h =
-    let k = both-true (leb count limit.counter) (eqb refs count) h in
-    (leb-true count limit.counter (k .0), eqb-true refs count (k .1))
-
 away : (t count refs : ℕ) → sound (state false t count refs) ≡ true → (t ≡ 0) × (count ≡ 0) × (refs ≡ 0)
 away t count refs h =
     let k = both-true (eqb t 0) (eqb count 0 && eqb refs 0) h in
     let j = both-true (eqb count 0) (eqb refs 0) (k .1) in
     (eqb-true t 0 (k .0), eqb-true count 0 (j .0), eqb-true refs 0 (j .1))
 
-told : (b : Bool) (t count refs : ℕ) → sound (state b t count refs) ≡ true → Sound (state b t count refs)
-told true t count refs h =
-    let k = there t count refs h in
-    record { inv = (refl, only-here t refs ∙ k .1, only-other t refs); limit = k .0; unused = λ e. clash (cc) }
-told false t count refs h =
+means : (b : Bool) (t count refs : ℕ) → sound (state b t count refs) ≡ true → Sound (state b t count refs)
+means true t count refs h =
+    record {
+      inv = (refl, only-here t refs ∙ refs-counted (state true t count refs) h refl, only-other t refs);
+      limit = leb-true count limit.counter (both-true (leb count limit.counter) (eqb refs count) h .0);
+      unused = λ e. clash (cc);
+    }
+means false t count refs h =
     let k = away t count refs h in
     record { inv = (refl, λ u. rw (k .2) (only-none t u)); limit = omega arith; unused = λ e. k }
 
-pub sound-told : (s : State) → sound s ≡ true → Sound s
-sound-told s h = told (s .present) (s .t) (s .count) (s .refs) h
+pub sound-means : (s : State) → sound s ≡ true → Sound s
+sound-means s h = means (s .present) (s .t) (s .count) (s .refs) h
 
 -- ---------- and where it holds the test says so
 
@@ -63,25 +61,13 @@ tests false t count refs h =
     let k = h .unused refl in
     true-both (eq-eqb t 0 (k .0)) (true-both (eq-eqb count 0 (k .1)) (eq-eqb refs 0 (k .2)))
 
-pub told-sound : (s : State) → Sound s → sound s ≡ true
-told-sound s h = tests (s .present) (s .t) (s .count) (s .refs) h
-
-pub sound-iff : (s : State) → (sound s ≡ true) ↔ Sound s
-sound-iff s = (sound-told s, told-sound s)
+pub means-sound : (s : State) → Sound s → sound s ≡ true
+means-sound s h = tests (s .present) (s .t) (s .count) (s .refs) h
 
 pub fresh-sound : sound freshState ≡ true
 fresh-sound = refl
 
--- ---------- what the proofs take from a sound state
+-- ---------- a counter at 0: no reference either
 
--- a counter: as many references as it says
-pub sound-there : (s : State) → sound s ≡ true → s .present ≡ true → (s .count ≤ limit.counter) × (s .refs ≡ s .count)
-sound-there s h p = there (s .t) (s .count) (s .refs) (rw p at h)
-
--- none: no reference either
-pub sound-away : (s : State) → sound s ≡ true → s .present ≡ false → s .refs ≡ 0
-sound-away s h p = sound-told s h .unused p .2
-
--- a counter at 0: no reference either
-pub sound-zero : (s : State) → sound s ≡ true → s .present ≡ true → eqb (s .count) 0 ≡ true → s .refs ≡ 0
-sound-zero s h p e = sound-there s h p .1 ∙ eqb-true (s .count) 0 e
+pub counted-none : (s : State) → Sound s → s .present ≡ true → eqb (s .count) 0 ≡ true → s .refs ≡ 0
+counted-none s k p e = refs-counted s (means-sound s k) p ∙ eqb-true (s .count) 0 e

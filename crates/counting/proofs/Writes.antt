@@ -1,4 +1,4 @@
--- An entry and an image, laid down piece by piece. Assumes nothing.
+-- An entry and an image, laid down piece by piece, and that no step logs more than an entry's room. Assumes nothing.
 use mathlib.Core.Path.{_≡_, _∙_}
 use mathlib.Core.List.{List, [], _∷_, _++_}
 use Prim.Native.Nat.{ℕ, _+_, _-_, _≤_, _<_}
@@ -7,7 +7,12 @@ use mir.Val.{boolByte}
 use lib.ListN.{length, set, length-set}
 use Rattle.rows.specs.Bytes.{big}
 use Rattle.rows.specs.Stores.{Laid}
+use Rattle.rows.specs.Walk.{pieces}
 use Rattle.rows.proofs.Stores.{none-laid, laid-then, stores-then, laid-length}
+use Rattle.schedule.specs.Limits as limit
+use Rattle.schedule.specs.declared.steps.CountingStep.{CountingStep}
+use Rattle.schedule.specs.declared.steps.CountingStep.the-variants.{WriteableToReadable, ReadableToWriteable, NewRef, DeleteRef}
+use Rattle.counting.specs.Counting.{logs}
 use Rattle.counting.specs.Image.{tagged, entryBytes, imageBytes}
 use Rattle.counting.specs.declared.entry.Entry.{Entry}
 use Rattle.counting.specs.declared.state.State.{State}
@@ -31,6 +36,13 @@ module _ (s : State) (l : List ℕ) where
       let value = laid-then l 0 front (big 4 (s .t)) a k b m (omega arith) p q in
       let count = laid-then l 0 (front ++ big 4 (s .t)) (s .count ∷ []) b m c n (omega arith) value r in
       laid-then l 0 (front ++ big 4 (s .t) ++ (s .count ∷ [])) (s .refs ∷ []) c n d o (omega arith) count t
+
+-- a step logs one entry at most
+pub logs-short : (s : State) (x : CountingStep) → length (pieces entryBytes (logs s x)) ≤ limit.entry
+logs-short s (WriteableToReadable t) = omega arith
+logs-short s ReadableToWriteable = omega arith
+logs-short s NewRef = omega arith
+logs-short s (DeleteRef t) = omega arith
 
 -- an entry that was matched
 pub entry-laid : (e e′ : Entry) (l : List ℕ) (at r : ℕ) (l′ : List ℕ) → e ≡ e′ → Laid l at (entryBytes e′) r l′ → Laid l at (entryBytes e) r l′

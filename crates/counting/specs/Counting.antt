@@ -1,20 +1,18 @@
 -- The counting machine as the scope has it: a step's tests, the state after it, what it logs. Assumes nothing.
-use Prim.Native.Nat.{ℕ, _+_, _-_}
+use Prim.Native.Nat.{_+_, _-_}
 use mathlib.Core.Path.{_≡_, refl}
-use mathlib.Core.Bool.{Bool, true, false, not}
+use mathlib.Core.Bool.{true, false, not}
 use mathlib.Core.List.{List, [], _∷_}
 use lib.Dec.{eqb, ltb}
 use Rattle.machine.specs.Check.{Check, need, rises}
 use Rattle.machine.specs.Machine.{Machine}
-use Rattle.machine.specs.Move.{moveCode, moveTo}
-use Rattle.schedule.specs.Codes as code
+use Rattle.machine.specs.Codes as code
 use Rattle.schedule.specs.Limits as limit
 use Rattle.schedule.specs.declared.steps.CountingStep.{CountingStep}
 use Rattle.schedule.specs.declared.steps.CountingStep.the-variants.{WriteableToReadable, ReadableToWriteable, NewRef, DeleteRef}
 use Rattle.counting.specs.declared.state.State.{State}
 use Rattle.counting.specs.declared.entry.Entry.{Entry}
 use Rattle.counting.specs.declared.entry.Entry.the-variants.{Withdrawn, Granted}
-use Rattle.counting.specs.declared.moves.Moved.{Moved}
 
 -- nothing stored, no counter, no reference
 abbrev pub freshState : State
@@ -48,15 +46,3 @@ rising s (DeleteRef t) = refl
 
 abbrev pub counting : Machine
 counting = record { State = State; Step = CountingStep; Entry = Entry; tests = tests; next = next; logs = logs; rising = rising }
-
--- ---------- the transitions on any state, also one that no history leads to
-
--- the counters that the step moves can be moved: so in every sound state
-abbrev pub movable : State → CountingStep → Bool
-movable s (WriteableToReadable t) = true
-movable s ReadableToWriteable = true
-movable s NewRef = ltb (s .refs) limit.counter
-movable s (DeleteRef t) = ltb 0 (s .count)
-
-abbrev pub moved : State → CountingStep → Moved
-moved s x = record { state = moveTo (tests s x) (movable s x) (next s x) s; code = moveCode (tests s x) (movable s x) }

@@ -1,5 +1,7 @@
 pub mod Source
+pub mod Invariants
 pub mod Counting
+pub mod Moved
 pub mod Sound
 pub mod Image
 pub mod Single

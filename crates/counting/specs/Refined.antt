@@ -1,16 +1,18 @@
--- How a state stands for the source's, and what is proved of the two: proofs/Refines.antt and proofs/Sounds.antt. Assumes nothing.
+-- How a state stands for the source's, and what is proved of the two, in proofs/Refines.antt. Assumes nothing.
 use Prim.Native.Nat.{ℕ, _≤_}
 use mathlib.Core.Path.{_≡_}
-use mathlib.Core.Bool.{Bool, true, false, cond}
+use mathlib.Core.Bool.{true, false, cond}
 use mathlib.Core.List.{List, [], _∷_}
-use mathlib.Core.Option.{Option, none, some}
+use mathlib.Core.Option.{none, some}
 use lib.Dec.{eqb}
-use Rattle.machine.specs.Machine.{Accepted}
+use Rattle.machine.specs.Sourced.{Sourced, Upholds}
 use Rattle.schedule.specs.Limits as limit
 use Rattle.schedule.specs.declared.steps.CountingStep.{CountingStep}
 use Rattle.schedule.specs.declared.steps.CountingStep.the-variants.{WriteableToReadable, ReadableToWriteable, NewRef, DeleteRef}
 use Rattle.counting.specs.Source as source
-use Rattle.counting.specs.Source.{CountingPermissions, Transition, Moves, Safe, main-inv}
+use Rattle.counting.specs.Source.{CountingPermissions, Transition, Moves, Safe}
+use Rattle.counting.specs.Invariants as invariants
+use Rattle.counting.specs.Invariants.{main-inv}
 use Rattle.counting.specs.Counting.{counting, freshState, next, logs}
 use Rattle.counting.specs.Sound.{sound}
 use Rattle.counting.specs.declared.state.State.{State}
@@ -47,17 +49,26 @@ AtLimit s ReadableToWriteable = ⊥
 AtLimit s NewRef = (s .present ≡ true) × (s .count ≡ limit.counter)
 AtLimit s (DeleteRef t) = ⊥
 
-pub record Enabled (s : State) (x : CountingStep) : Type 0 where
-  pub to : CountingPermissions
-  pub moves : Moves (abs s) (label x) to
-  pub below : AtLimit s x → ⊥
-
 -- what the source hands out: readable_to_writeable the value that it withdraws, new_ref a reference to the counter's value
 abbrev pub HandsOut : CountingPermissions → Transition → List Entry → Type 0
 HandsOut pre (source.writeable-to-readable t) es = es ≡ []
 HandsOut pre source.readable-to-writeable es = (t : ℕ) × (pre .stored ≡ some t) × (es ≡ Withdrawn t ∷ [])
 HandsOut pre source.new-ref es = (count t : ℕ) × (pre .main-counter ≡ some (count, t)) × (es ≡ Granted t ∷ [])
 HandsOut pre (source.delete-ref t1) es = es ≡ []
+
+-- the machine beside counting.rs: `Enabled`, `Path`, `Exact` of machine/specs/Sourced.antt are said of it
+abbrev pub countingPermissions : Sourced counting
+countingPermissions =
+    record {
+      Source = CountingPermissions;
+      Transition = Transition;
+      Moves = Moves;
+      Safe = Safe;
+      HandsOut = HandsOut;
+      abs = abs;
+      label = label;
+      AtLimit = AtLimit;
+    }
 
 -- ---------- what is proved
 
@@ -66,20 +77,12 @@ pub record Refines : Type 0 where
   pub fresh-new : abs freshState ≡ source.new
   pub fresh-sound : sound freshState ≡ true
   -- the test is the record
-  pub sound-told : (s : State) → sound s ≡ true → Sound s
-  pub told-sound : (s : State) → Sound s → sound s ≡ true
-  -- of a sound state: a step is accepted exactly when it is enabled ..
-  pub accepted-enabled : (s : State) (x : CountingStep) → sound s ≡ true → Accepted counting s x → Enabled s x
-  pub enabled-accepted : (s : State) (x : CountingStep) → sound s ≡ true → Enabled s x → Accepted counting s x
-  -- .. and then does what the source says: the state after is the source's, and the log is what the source hands out
-  pub accepted-post : (s : State) (x : CountingStep) (to : CountingPermissions) → sound s ≡ true → Accepted counting s x → Moves (abs s) (label x) to → to ≡ abs (next s x)
-  pub accepted-moves : (s : State) (x : CountingStep) → sound s ≡ true → Accepted counting s x → Moves (abs s) (label x) (abs (next s x))
-  pub accepted-logs : (s : State) (x : CountingStep) → sound s ≡ true → Accepted counting s x → HandsOut (abs s) (label x) (logs s x)
-  pub accepted-safe : (s : State) (x : CountingStep) → sound s ≡ true → Accepted counting s x → Safe (abs s) (label x)
-  -- accepted steps keep soundness
-  pub accepted-sound : (s : State) (x : CountingStep) → sound s ≡ true → Accepted counting s x → sound (next s x) ≡ true
+  pub sound-means : (s : State) → sound s ≡ true → Sound s
+  pub means-sound : (s : State) → Sound s → sound s ≡ true
+  -- of a sound state: a step is accepted exactly when it is enabled, and then does what the source says and leaves a sound state
+  pub upholds : Upholds countingPermissions Sound
   -- the source's properties hold of every sound state
-  pub compare-refs : (s : State) → sound s ≡ true → source.compare-refs (abs s)
-  pub compare-ref-and-counter : (s : State) → sound s ≡ true → source.compare-ref-and-counter (abs s)
-  pub read-ref-guards : (s : State) → sound s ≡ true → source.read-ref-guards (abs s)
-  pub counter-guards : (s : State) → sound s ≡ true → source.counter-guards (abs s)
+  pub compare-refs : (s : State) → Sound s → invariants.compare-refs (abs s)
+  pub compare-ref-and-counter : (s : State) → Sound s → invariants.compare-ref-and-counter (abs s)
+  pub read-ref-guards : (s : State) → Sound s → invariants.read-ref-guards (abs s)
+  pub counter-guards : (s : State) → Sound s → invariants.counter-guards (abs s)

@@ -1,12 +1,9 @@
--- What the single step promises: its answer, and the entry over the log's front. Assumes nothing.
-use mathlib.Core.Path.{_≡_}
+-- What the single step promises: `Singled` of machine/specs/Single.antt, for this machine. Assumes nothing.
 use mathlib.Core.List.{List}
 use mathlib.Core.Option.{Option, none, some}
 use Prim.Native.Nat.{ℕ}
-use lib.ListN.{length}
-use Rattle.rows.specs.Stores.{over}
-use Rattle.rows.specs.Walk.{pieces}
-use Rattle.machine.specs.Single.{Single, single}
+use Rattle.machine.specs.Single as machine
+use Rattle.machine.specs.Single.{Stepper}
 use Rattle.schedule.specs.Limits as limit
 use Rattle.schedule.specs.declared.steps.CountingStep.{CountingStep}
 use Rattle.schedule.specs.declared.steps.Step.{Step}
@@ -24,19 +21,15 @@ own (Lock x) = none
 own (Counting x) = some x
 own (Flag x) = none
 
--- a state, a step or none, a log buffer
-abbrev pub answered : State → Option CountingStep → List ℕ → Single counting
-answered s x l = single counting sound limit.entry s x l
+-- the place is always 0
+abbrev pub answer : State → ℕ → ℕ → Answer
+answer s logged code = record { state = s; place = 0; logged = logged; code = code }
 
-abbrev pub written : Single counting → List ℕ
-written o = pieces entryBytes (o .wrote)
-
-pub record Answers (o : Single counting) (l : List ℕ) (r : Answer) (l′ : List ℕ) : Type 0 where
-  pub answer : r ≡ record { state = o .state; place = 0; logged = length (written o); code = o .code }
-  pub log : l′ ≡ over (written o) l
+abbrev pub stepper : Stepper counting
+stepper = record { Any = Step; own = own; sound = sound; room = limit.entry; bytes = entryBytes; Answer = Answer; answer = answer }
 
 abbrev pub Singled : State → Step → List ℕ → Answer → List ℕ → Type 0
-Singled s x l r l′ = Answers (answered s (own x) l) l r l′
+Singled s x l r l′ = machine.Singled stepper s x l r l′
 
 abbrev pub Applied : State → CountingStep → List ℕ → Answer → List ℕ → Type 0
-Applied s x l r l′ = Answers (answered s (some x) l) l r l′
+Applied s x l r l′ = machine.Applied stepper s x l r l′

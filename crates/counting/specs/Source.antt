@@ -1,6 +1,7 @@
--- counting.rs, CountingPermissions<T>, transcribed with numbers for T: its fields, `new`, its four transitions, what they deposit and withdraw, its
--- four properties and `main_inv`, under their own names. A transition is a relation of the state before and the state after: a record with the
--- variables that a `require let` binds, a field for each `require` and for what a `remove` needs, and the state after as one equation. Assumes nothing.
+-- counting.rs, CountingPermissions<T>, transcribed with numbers for T: its fields, `new`, its four transitions, what they deposit and withdraw, under
+-- their own names. A transition is a relation of the state before and the state after: a record with the variables that a `require let` binds, a field
+-- for each `require` and for what a `remove` needs, and the state after as one equation. Its invariant and its properties stand in
+-- specs/Invariants.antt. Assumes nothing.
 use Prim.Native.Nat.{ℕ, _+_, _-_, _≤_}
 use mathlib.Core.Path.{_≡_}
 use mathlib.Core.Option.{Option, none, some}
@@ -60,27 +61,3 @@ Safe pre (writeable-to-readable t) = pre .stored ≡ none
 Safe pre readable-to-writeable = (t : ℕ) × (pre .main-counter ≡ some (0, t)) × (pre .stored ≡ some t)
 Safe pre new-ref = Unit {0}
 Safe pre (delete-ref t1) = (count : ℕ) × (pre .main-counter ≡ some (count, t1)) × (1 ≤ count)
-
--- ---------- the invariant
-
-abbrev inv : Option ℕ → Option (ℕ × ℕ) → Multiset ℕ → Type 0
-inv none counter refs = (counter ≡ none) × ((t0 : ℕ) → refs t0 ≡ 0)
-inv (some t) none refs = ⊥
-inv (some t) (some k) refs = (t ≡ k .1) × (refs t ≡ k .0) × ((t0 : ℕ) → (t0 ≡ t → ⊥) → refs t0 ≡ 0)
-
-abbrev pub main-inv : CountingPermissions → Type 0
-main-inv m = inv (m .stored) (m .main-counter) (m .read-ref)
-
--- ---------- the properties, each with its conclusion (compare_refs states none: refs held together are equal here)
-
-abbrev pub compare-refs : CountingPermissions → Type 0
-compare-refs m = (t1 t2 : ℕ) → 1 ≤ m .read-ref t1 → 1 ≤ m .read-ref t2 → t1 ≡ t2
-
-abbrev pub compare-ref-and-counter : CountingPermissions → Type 0
-compare-ref-and-counter m = (t1 count t2 : ℕ) → 1 ≤ m .read-ref t1 → m .main-counter ≡ some (count, t2) → t1 ≡ t2
-
-abbrev pub read-ref-guards : CountingPermissions → Type 0
-read-ref-guards m = (t : ℕ) → 1 ≤ m .read-ref t → m .stored ≡ some t
-
-abbrev pub counter-guards : CountingPermissions → Type 0
-counter-guards m = (count t : ℕ) → m .main-counter ≡ some (count, t) → m .stored ≡ some t

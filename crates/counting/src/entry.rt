@@ -1,5 +1,4 @@
 // What an accepted step logs, and its bytes.
-ghost use mathlib.Core.Path.{_≡_};
 ghost use Rattle.rows.specs.Stores.{Laid};
 ghost use Rattle.counting.specs.Image.{entryBytes, tagged};
 

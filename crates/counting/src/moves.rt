@@ -2,11 +2,11 @@
 // answers the state after it, or the code of the first test that fails and the state as it was. A state whose counters the step can't move
 // is not sound, and is answered with 10.
 use super::state::State;
-use schedule::codes;
+use machine::codes;
 use schedule::limits;
 ghost use mathlib.Core.Path.{_≡_};
 ghost use Rattle.schedule.specs.declared.steps.CountingStep.the-variants.{WriteableToReadable, ReadableToWriteable, NewRef, DeleteRef};
-ghost use Rattle.counting.specs.Counting.{moved};
+ghost use Rattle.counting.specs.Moved.{moved};
 
 pub struct Moved {
     pub state: State,

@@ -3,9 +3,9 @@ use super::entry;
 use super::entry::Entry;
 use super::moves;
 use super::moves::Moved;
-use super::state;
+use super::sound;
 use super::state::State;
-use schedule::codes;
+use machine::codes;
 use schedule::limits;
 use schedule::steps::CountingStep;
 use schedule::steps::Step;
@@ -14,8 +14,8 @@ ghost use mathlib.Core.Bool.{true};
 ghost use Prim.Native.Nat.{_≤_};
 ghost use lib.ListN.{length};
 ghost use Rattle.schedule.specs.Limits as limit;
-ghost use Rattle.counting.specs.Sound.{sound};
-ghost use Rattle.counting.specs.Single.{Singled, Applied};
+ghost use Rattle.counting.specs.Sound as test;
+ghost use Rattle.counting.specs.Single.{Singled, Applied, answer};
 
 // The state after the step, or the state as it was; the place is always 0; the entry's length.
 pub struct Answer {
@@ -43,7 +43,7 @@ fn tested(s: State, x: CountingStep, log: &mut [u8]) -> Answer
     if log.len() < limits::ENTRY {
         return quiet(s, codes::ROOM);
     }
-    if state::is_sound(s) {
+    if sound::is_sound(s) {
         return apply(s, x, log);
     }
     quiet(s, codes::UNSOUND)
@@ -51,7 +51,7 @@ fn tested(s: State, x: CountingStep, log: &mut [u8]) -> Answer
 
 // An answer that logs nothing.
 fn quiet(s: State, code: u8) -> Answer
-    ensures { λ r. ⌜ r ≡ record { state = s; place = 0; logged = 0; code = code } ⌝ }
+    ensures { λ r. ⌜ r ≡ answer s 0 code ⌝ }
 {
     Answer {
         state: s,
@@ -62,7 +62,7 @@ fn quiet(s: State, code: u8) -> Answer
 }
 
 fn apply(s: State, x: CountingStep, log: &mut [u8]) -> Answer
-    requires { ⌜ sound s ≡ true ⌝ }
+    requires { ⌜ test.sound s ≡ true ⌝ }
     requires { ⌜ limit.entry ≤ length (now log) ⌝ }
     ensures { λ r. ⌜ Applied s x (now (log .entry)) r (now (log .exit)) ⌝ }
 {
@@ -89,7 +89,7 @@ fn apply(s: State, x: CountingStep, log: &mut [u8]) -> Answer
 }
 
 fn settle(m: Moved, logged: usize) -> Answer
-    ensures { λ r. ⌜ r ≡ record { state = m .state; place = 0; logged = logged; code = m .code } ⌝ }
+    ensures { λ r. ⌜ r ≡ answer (m .state) logged (m .code) ⌝ }
 {
     let s = m.state;
     Answer {

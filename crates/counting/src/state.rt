@@ -1,9 +1,7 @@
-// The state of the counting machine: fresh, sound, its image.
-use schedule::limits;
+// The state of the counting machine: fresh, and its image.
 ghost use mathlib.Core.Path.{_≡_};
 ghost use Rattle.rows.specs.Stores.{Laid};
 ghost use Rattle.counting.specs.Counting.{freshState};
-ghost use Rattle.counting.specs.Sound.{sound};
 ghost use Rattle.counting.specs.Image.{imageBytes};
 
 // The stored value and its counter are there or not together, so one flag serves both. All references carry `t`.
@@ -23,24 +21,6 @@ pub fn fresh() -> State
         refs: 0,
         present: false,
     }
-}
-
-pub fn is_sound(s: State) -> bool
-    ensures { λ r. ⌜ r ≡ sound s ⌝ }
-{
-    if s.present {
-        if s.count <= limits::COUNTER {
-            return s.refs == s.count;
-        }
-        return false;
-    }
-    if s.t != 0 {
-        return false;
-    }
-    if s.count != 0 {
-        return false;
-    }
-    s.refs == 0
 }
 
 // The image at the front of the buffer, or nothing where it does not fit; the answer is its length.

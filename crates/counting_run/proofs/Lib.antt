@@ -1,3 +1,3 @@
+pub mod Carried
 pub mod Turns
-pub mod Whole
 pub mod Settled

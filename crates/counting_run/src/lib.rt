@@ -4,24 +4,23 @@ use counting::entry::Entry;
 use counting::moves;
 use counting::state;
 use counting::state::State;
+use machine::codes;
 use schedule::answer;
 use schedule::answer::Answer;
-use schedule::codes;
 use schedule::count;
 use schedule::count::Counted;
 use schedule::front;
 use schedule::kinds;
+use schedule::lengths;
 use schedule::limits;
 use schedule::read;
 use schedule::steps::CountingStep;
 ghost use lib.ListN.{length};
-ghost use Rattle.schedule.specs.Answers.{Leaves, restFrom};
-ghost use Rattle.schedule.specs.Running.{Counts, Runnable, Ended};
-ghost use Rattle.schedule.specs.Spelling as spelled;
+ghost use Rattle.schedule.specs.Answers.{Leaves};
+ghost use Rattle.schedule.specs.Running.{Counts, Runnable, Ended, restRun};
 ghost use Rattle.schedule.specs.Widths as kind;
-ghost use Rattle.counting.specs.Counting.{counting};
-ghost use Rattle.counting.specs.Image.{entryBytes, imageBytes};
-ghost use Rattle.counting_run.specs.Run.{Good, leftBy, restOfFile};
+ghost use Rattle.counting.specs.Refined.{Sound};
+ghost use Rattle.counting_run.specs.Run.{runner, leftBy, restOfFile};
 
 // What a run leaves: the state after the accepted steps, the index of the step that stopped it or the number of steps, and how far the log is
 // written.
@@ -34,8 +33,8 @@ pub struct Ran {
 
 // The next n steps of a file on a state, their entries into the log from `used` on.
 fn run(file: &[u8], from: usize, n: usize, start: State, log: &mut [u8], used: usize) -> Ran
-    requires { ⌜ Runnable counting spelled.counting Good (now file) from n start used (length (now log)) ⌝ }
-    ensures { λ r. ⌜ Ended counting spelled.counting entryBytes (now (file .entry)) from n start (now (log .entry)) used (leftBy r (now (log .exit))) ⌝ }
+    requires { ⌜ Runnable runner (now file) from n start used (length (now log)) ⌝ }
+    ensures { λ r. ⌜ Ended runner (now (file .entry)) from n start (now (log .entry)) used (leftBy r (now (log .exit))) ⌝ }
 {
     let mut s = start;
     let mut at = from;
@@ -64,11 +63,12 @@ fn run(file: &[u8], from: usize, n: usize, start: State, log: &mut [u8], used: u
                 }
                 let d = m.state;
                 s = d;
-                at += 6;
+                at += lengths::TAG_WHAT;
                 k += 1;
                 continue;
             }
             CountingStep::ReadableToWriteable => {
+                let t = s.t;
                 let m = moves::readable_to_writeable(s);
                 if m.code != 0 {
                     break Ran {
@@ -78,14 +78,15 @@ fn run(file: &[u8], from: usize, n: usize, start: State, log: &mut [u8], used: u
                         code: m.code,
                     };
                 }
-                w = entry::put_entry(log, w, Entry::Withdrawn { t: s.t });
+                w = entry::put_entry(log, w, Entry::Withdrawn { t });
                 let d = m.state;
                 s = d;
-                at += 2;
+                at += lengths::TAG;
                 k += 1;
                 continue;
             }
             CountingStep::NewRef => {
+                let t = s.t;
                 let m = moves::new_ref(s);
                 if m.code != 0 {
                     break Ran {
@@ -95,10 +96,10 @@ fn run(file: &[u8], from: usize, n: usize, start: State, log: &mut [u8], used: u
                         code: m.code,
                     };
                 }
-                w = entry::put_entry(log, w, Entry::Granted { t: s.t });
+                w = entry::put_entry(log, w, Entry::Granted { t });
                 let d = m.state;
                 s = d;
-                at += 2;
+                at += lengths::TAG;
                 k += 1;
                 continue;
             }
@@ -114,7 +115,7 @@ fn run(file: &[u8], from: usize, n: usize, start: State, log: &mut [u8], used: u
                 }
                 let d = m.state;
                 s = d;
-                at += 6;
+                at += lengths::TAG_WHAT;
                 k += 1;
                 continue;
             }
@@ -144,8 +145,8 @@ fn replayed(
     image: &mut [u8],
 ) -> Answer
     requires { ⌜ Counts kind.counting (now file) from n ⌝ }
-    requires { ⌜ Good start ⌝ }
-    ensures { λ r. ⌜ Leaves (restFrom counting spelled.counting entryBytes imageBytes start (now (file .entry)) from (now (log .entry)) (now (image .entry))) r (now (log .exit)) (now (image .exit)) ⌝ }
+    requires { ⌜ Sound start ⌝ }
+    ensures { λ r. ⌜ Leaves (restRun runner start (now (file .entry)) from (now (log .entry)) (now (image .entry))) r (now (log .exit)) (now (image .exit)) ⌝ }
 {
     if log.len() < n * limits::ENTRY {
         return answer::refused(codes::ROOM, 0);

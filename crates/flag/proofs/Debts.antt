@@ -14,7 +14,7 @@ use Rattle.machine.specs.History.{in#}
 use Rattle.flag.specs.Source as source
 use Rattle.flag.specs.Source.{Control}
 use Rattle.flag.specs.Flag.{went, owner, flipped}
-use Rattle.flag.specs.Sound.{isFive, isSix}
+use Rattle.flag.specs.Sound.{atSecond, atStore}
 use Rattle.flag.specs.Refined.{number, control}
 use Rattle.flag.specs.Demand.{flipOf, anyFlip, turned}
 use Rattle.flag.proofs.Loop.{numbered, second-five}
@@ -41,20 +41,21 @@ not-second source.try-handshake d d′ n = refl
 not-second source.try-handshake-second d d′ n = absurd (n refl)
 not-second source.try-handshake-store d d′ n = refl
 
-not-five : (p d d′ : ℕ) → isFive p ≡ false → owes (control p) d ≡ owes (control p) d′
-not-five p d d′ b = not-second (control p) d d′ (λ e. eqb-false p 5 b (second-five p e))
+not-concerned : (p d d′ : ℕ) → atSecond p ≡ false → owes (control p) d ≡ owes (control p) d′
+not-concerned p d d′ b = not-second (control p) d d′ (λ e. eqb-false p 5 b (second-five p e))
 
 -- nobody stands at 5, or k alone does: for all others `pending` is of no concern
-none-concerned : (ps : List ℕ) (d d′ : ℕ) → many isFive ps ≡ 0 → (q : ℕ) → owes (control (getD ps q 0)) d ≡ owes (control (getD ps q 0)) d′
-none-concerned ps d d′ m q = not-five (getD ps q 0) d d′ (many-none isFive ps 0 refl m q)
+none-concerned : (ps : List ℕ) (d d′ : ℕ) → many atSecond ps ≡ 0 → (q : ℕ) → owes (control (getD ps q 0)) d ≡ owes (control (getD ps q 0)) d′
+none-concerned ps d d′ m q = not-concerned (getD ps q 0) d d′ (many-none atSecond ps 0 refl m q)
 
-others-unconcerned : (ps : List ℕ) (k d d′ : ℕ) → k < length ps → getD ps k 0 ≡ 5 → many isFive ps ≡ 1
+others-unconcerned : (ps : List ℕ) (k d d′ : ℕ) → k < length ps → getD ps k 0 ≡ 5 → many atSecond ps ≡ 1
     → (q : ℕ) → ¬ (q ≡ k) → owes (control (getD ps q 0)) d ≡ owes (control (getD ps q 0)) d′
-others-unconcerned ps k d d′ r e m q n = not-five (getD ps q 0) d d′ (many-sole isFive ps k 0 refl r (rw e) (omega arith) q n)
+others-unconcerned ps k d d′ r e m q n = not-concerned (getD ps q 0) d d′ (many-sole atSecond ps k 0 refl r (rw e) (omega arith) q n)
 
 -- ---------- B begun and F logged for each thread, over the places ps, of which k stands at c
 
-module _ (B F : ℕ → ℕ) (ps : List ℕ) (k : ℕ) (c : Control) (r : k < length ps) (e : getD ps k 0 ≡ number c) (d : ℕ) (i : (q : ℕ) → B q ≡ F q + owes (control (getD ps q 0)) d) where
+module _ (B F : ℕ → ℕ) (ps : List ℕ) (k : ℕ) (c : Control) (r : k < length ps) (e : getD ps k 0 ≡ number c) (d : ℕ)
+    (i : (q : ℕ) → B q ≡ F q + owes (control (getD ps q 0)) d) where
   here : B k ≡ F k + owes c d
   here = i k ∙ rw (e, numbered c)
 
@@ -72,7 +73,7 @@ module _ (B F : ℕ → ℕ) (ps : List ℕ) (k : ℕ) (c : Control) (r : k < le
       (λ n. rw (ne-eqb q k n) (i q))
 
 -- the one who offers, and the mover, are logged
-both : (B F : ℕ → ℕ) (ps : List ℕ) (k : ℕ) → k < length ps → getD ps k 0 ≡ 1 → many isFive ps ≡ 1 → ((q : ℕ) → B q ≡ F q + owes (control (getD ps q 0)) 1)
+both : (B F : ℕ → ℕ) (ps : List ℕ) (k : ℕ) → k < length ps → getD ps k 0 ≡ 1 → many atSecond ps ≡ 1 → ((q : ℕ) → B q ≡ F q + owes (control (getD ps q 0)) 1)
     → (q : ℕ) → B q ≡ tick (eqb q (owner ps)) (tick (eqb q k) (F q)) + owes (control (getD (set ps k 0) q 0)) 2
 both B F ps k r e m i q =
     let o = owner-five ps (omega arith) in
@@ -86,14 +87,14 @@ both B F ps k r e m i q =
 -- ---------- a move: what is owed before it is what it logs and what is owed after it
 
 -- who stands at 5 or 6 is counted there
-no-five : (ps : List ℕ) (k : ℕ) → getD ps k 0 ≡ 5 → many isFive ps ≡ 0 → ⊥
-no-five ps k e m = let z = rw e at (many-none isFive ps 0 refl m k) in clash (cc)
+no-five : (ps : List ℕ) (k : ℕ) → getD ps k 0 ≡ 5 → many atSecond ps ≡ 0 → ⊥
+no-five ps k e m = let z = rw e at (many-none atSecond ps 0 refl m k) in clash (cc)
 
-no-six : (ps : List ℕ) (k : ℕ) → getD ps k 0 ≡ 6 → many isSix ps ≡ 0 → ⊥
-no-six ps k e m = let z = rw e at (many-none isSix ps 0 refl m k) in clash (cc)
+no-six : (ps : List ℕ) (k : ℕ) → getD ps k 0 ≡ 6 → many atStore ps ≡ 0 → ⊥
+no-six ps k e m = let z = rw e at (many-none atStore ps 0 refl m k) in clash (cc)
 
 pub debt-move : (B F : ℕ → ℕ) (ps : List ℕ) (k : ℕ) (c : Control) (d : ℕ) (v : Bool) → let w = went (number c) d v in
-    k < length ps → getD ps k 0 ≡ number c → (c ≡ source.returned → ⊥) → Handshake d (many isFive ps) (many isSix ps)
+    k < length ps → getD ps k 0 ≡ number c → (c ≡ source.returned → ⊥) → Handshake d (many atSecond ps) (many atStore ps)
     → ((q : ℕ) → B q ≡ F q + owes (control (getD ps q 0)) d)
     → (q : ℕ) → B q ≡ in# (flipOf q) (flipped (w .flips) (owner ps) k) (F q) + owes (control (getD (set ps k (w .place)) q 0)) (w .pending)
 debt-move B F ps k source.returned d v r e n h i = absurd (n refl)
@@ -117,7 +118,7 @@ debt-move B F ps k source.try-handshake-second (suc (suc (suc d))) v r e n h i =
 debt-move B F ps k source.try-handshake-store zero v r e n h i = absurd (no-six ps k e (h .1))
 debt-move B F ps k source.try-handshake-store (suc zero) v r e n h i = absurd (no-six ps k e (h .1))
 debt-move B F ps k source.try-handshake-store (suc (suc zero)) v r e n h i =
-    let m : many isFive ps ≡ 0 = omega (arith, h, rw e at (many-set isSix ps k 0 0 r)) in
+    let m : many atSecond ps ≡ 0 = omega (arith, h, rw e at (many-set atStore ps k 0 0 r)) in
     quiet B F ps k source.try-handshake-store r e 2 i 0 0 refl (λ q _. none-concerned ps 2 0 m q)
 debt-move B F ps k source.try-handshake-store (suc (suc (suc d))) v r e n h i = absurd h
 

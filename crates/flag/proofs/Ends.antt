@@ -15,10 +15,10 @@ use Rattle.schedule.specs.Limits as limit
 use Rattle.schedule.specs.declared.steps.FlagStep.the-variants.{Begin, Move}
 use Rattle.flag.specs.Source as source
 use Rattle.flag.specs.Source.{Control}
-use Rattle.flag.specs.Flag.{flag, emptyFlag, place, went, wentBy, next}
-use Rattle.flag.specs.Refined.{number, controls, Sound, EndsWithin, over, goes}
+use Rattle.flag.specs.Flag.{flag, freshState, place, went, wentBy, next}
+use Rattle.flag.specs.Refined.{number, abs, Sound, EndsWithin, over, goes}
 use Rattle.flag.specs.declared.state.State.{State}
-use Rattle.flag.proofs.Sounds.{sound-told, in-row}
+use Rattle.flag.proofs.Sounds.{sound-means, in-row}
 use Rattle.flag.proofs.Kept.{stands-at}
 
 -- ---------- one's own moves, from place p with `pending` d and value v: at place 0 within m of them
@@ -86,7 +86,7 @@ alone-ends (suc m) k s b r e = on (eqb (place s k) 0)
 
 pub ends : (s : State) → Sound s → (k : ℕ) → k < s .threads → EndsWithin k 5 s
 ends s i k b =
-    alone-ends 5 k s b (in-row s k i b) (rw (stands-at s k i) (five (controls s k) (s .pending) (s .value)))
+    alone-ends 5 k s b (in-row s k i b) (rw (stands-at s k i) (five (abs s .controls k) (s .pending) (s .value)))
 
 -- ---------- four are not enough: from place 3 with value true, by an offer that nobody takes
 
@@ -102,9 +102,9 @@ ends-alone (suc m) k s r (goes a t) = on (eqb (place s k) 0)
 abbrev turned-meanwhile : State
 turned-meanwhile = record { threads = 2; pending = 0; value = true; places = set (replicate limit.threads 0) 0 3 }
 
-pub turned-reached : after flag (emptyFlag 2 false) (Begin 0 ∷ Move 0 ∷ Move 0 ∷ Begin 1 ∷ Move 1 ∷ Move 1 ∷ Move 1 ∷ []) ≡ turned-meanwhile
+pub turned-reached : after flag (freshState 2 false) (Begin 0 ∷ Move 0 ∷ Move 0 ∷ Begin 1 ∷ Move 1 ∷ Move 1 ∷ Move 1 ∷ []) ≡ turned-meanwhile
 turned-reached = refl
 
 pub not-four : Sound turned-meanwhile × (EndsWithin 0 4 turned-meanwhile → ⊥)
 unfolding alone
-not-four = (sound-told turned-meanwhile refl refl, λ t. let z = ends-alone 4 0 turned-meanwhile (omega arith) t in clash (cc))
+not-four = (sound-means turned-meanwhile refl refl, λ t. let z = ends-alone 4 0 turned-meanwhile (omega arith) t in clash (cc))

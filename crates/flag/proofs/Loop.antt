@@ -9,9 +9,10 @@ use lib.Dec.{eqb}
 use borrow.Author.Tests.{eqb-true, ne-eqb}
 use Rattle.rows.proofs.Cases.{on, clash}
 use Rattle.flag.specs.Source as source
-use Rattle.flag.specs.Source.{Control, Memory, control-after, memory-after, resolves, Waits}
+use Rattle.flag.specs.Source.{Control, Memory, control-after, memory-after, resolves}
+use Rattle.flag.specs.Invariants.{Waits}
 use Rattle.flag.specs.Flag.{went}
-use Rattle.flag.specs.Sound.{isFive, isSix}
+use Rattle.flag.specs.Sound.{atSecond, atStore}
 use Rattle.flag.specs.Refined.{number, control, flipsOf}
 
 -- ---------- the numbers
@@ -24,6 +25,15 @@ numbered source.try-simple-flip-second = refl
 numbered source.try-handshake = refl
 numbered source.try-handshake-second = refl
 numbered source.try-handshake-store = refl
+
+pub number-small : (c : Control) → number c ≤ 6
+number-small source.returned = omega arith
+number-small source.try-cancel-two-flips = omega arith
+number-small source.try-simple-flip = omega arith
+number-small source.try-simple-flip-second = omega arith
+number-small source.try-handshake = omega arith
+number-small source.try-handshake-second = omega arith
+number-small source.try-handshake-store = omega arith
 
 -- any number is that of a place, or over 6
 data Stands (p : ℕ) : Type 0 where
@@ -63,7 +73,7 @@ outside-zero p h e = placed p h ∙ ap number e
 -- ---------- the places where a thread waits for its offer: 5 and 6
 
 abbrev pub waiting : ℕ → Bool
-waiting p = isFive p || isSix p
+waiting p = atSecond p || atStore p
 
 pub second-five : (p : ℕ) → control p ≡ source.try-handshake-second → p ≡ 5
 second-five p e = at-place p source.try-handshake-second (λ z. clash (cc)) e
@@ -75,14 +85,14 @@ pub waits-waiting : (p : ℕ) → Waits (control p) → waiting p ≡ true
 waits-waiting p (inl e) = rw (second-five p e)
 waits-waiting p (inr e) = rw (store-six p e)
 
-pub five-second : (p : ℕ) → isFive p ≡ true → control p ≡ source.try-handshake-second
+pub five-second : (p : ℕ) → atSecond p ≡ true → control p ≡ source.try-handshake-second
 five-second p b = rw (eqb-true p 5 b)
 
-pub six-store : (p : ℕ) → isSix p ≡ true → control p ≡ source.try-handshake-store
+pub six-store : (p : ℕ) → atStore p ≡ true → control p ≡ source.try-handshake-store
 six-store p b = rw (eqb-true p 6 b)
 
 pub waiting-waits : (p : ℕ) → waiting p ≡ true → Waits (control p)
-waiting-waits p e = on (isFive p) (λ b. inl (five-second p b)) (λ b. inr (six-store p (rw b at e)))
+waiting-waits p e = on (atSecond p) (λ b. inl (five-second p b)) (λ b. inr (six-store p (rw b at e)))
 
 -- ---------- the table
 

@@ -11,30 +11,30 @@ use Rattle.rows.proofs.Cases.{on, clash}
 use Rattle.flag.specs.Source as source
 use Rattle.flag.specs.Source.{Control, Memory, resolves}
 use Rattle.flag.specs.Flag.{place, owner}
-use Rattle.flag.specs.Sound.{isFive}
-use Rattle.flag.specs.Refined.{controls, Sound}
+use Rattle.flag.specs.Sound.{atSecond}
+use Rattle.flag.specs.Refined.{abs, Sound}
 use Rattle.flag.specs.declared.state.State.{State}
 use Rattle.flag.proofs.Counts.{first-place, first-passes}
-use Rattle.flag.proofs.Sounds.{sound-hands}
+use Rattle.flag.proofs.Sounds.{sound-handshake}
 
-owner-first : (ps : List ℕ) → owner ps ≡ first-place isFive ps
+owner-first : (ps : List ℕ) → owner ps ≡ first-place atSecond ps
 owner-first [] = refl
 owner-first (p ∷ ps) = on (eqb p 5) (λ b. rw b) (λ b. rw b (ap suc (owner-first ps)))
 
 -- where a thread stands at 5, the first of them does
-pub owner-five : (ps : List ℕ) → 0 < many isFive ps → (getD ps (owner ps) 0 ≡ 5) × (owner ps < length ps)
+pub owner-five : (ps : List ℕ) → 0 < many atSecond ps → (getD ps (owner ps) 0 ≡ 5) × (owner ps < length ps)
 owner-five ps h =
-    let f = first-passes isFive ps 0 h in
-    rw (owner-first ps) (eqb-true (getD ps (first-place isFive ps) 0) 5 (f .0), f .1)
+    let f = first-passes atSecond ps 0 h in
+    rw (owner-first ps) (eqb-true (getD ps (first-place atSecond ps) 0) 5 (f .0), f .1)
 
 module _ (s : State) (i : Sound s) (e : s .pending ≡ 1) where
-  one-five : many isFive (s .places) ≡ 1
-  one-five = let h = rw e at (sound-hands s i) in h .0
+  one-five : many atSecond (s .places) ≡ 1
+  one-five = let h = rw e at (sound-handshake s i) in h .0
 
   offerer-five : place s (owner (s .places)) ≡ 5
   offerer-five = owner-five (s .places) (omega (arith, one-five)) .0
 
-  pub offerer-second : controls s (owner (s .places)) ≡ source.try-handshake-second
+  pub offerer-second : abs s .controls (owner (s .places)) ≡ source.try-handshake-second
   offerer-second = rw offerer-five
 
   -- it is a thread of the machine: what is none has place 0

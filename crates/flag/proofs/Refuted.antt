@@ -8,7 +8,7 @@ use Rattle.rows.proofs.Cases.{clash}
 use Rattle.machine.specs.History.{Event}
 use Rattle.schedule.specs.declared.steps.FlagStep.{FlagStep}
 use Rattle.schedule.specs.declared.steps.FlagStep.the-variants.{Begin, Move, Read}
-use Rattle.flag.specs.Flag.{emptyFlag}
+use Rattle.flag.specs.Flag.{freshState}
 use Rattle.flag.specs.Demand.{Hist, event, Demand}
 use Rattle.flag.specs.declared.state.State.{State}
 use Rattle.flag.specs.declared.entry.Entry.{Entry}
@@ -40,19 +40,19 @@ abbrev offered : Hist
 offered = to-offer ++ (begins-one 0 ∷ [])
 
 -- only the canceller is logged: the flip that it helped is finished, and logged nowhere
-pub only-the-canceller : Demand (emptyFlag 2 false) false (goes-on 0 ∷ goes-on 0 ∷ logs-flip 1 1 ∷ begins-one 1 ∷ offered) → ⊥
+pub only-the-canceller : Demand (freshState 2 false) false (goes-on 0 ∷ goes-on 0 ∷ logs-flip 1 1 ∷ begins-one 1 ∷ offered) → ⊥
 only-the-canceller d =
     let f = d .finished-once 0 [] [] (goes-on 0 ∷ goes-on 0 ∷ logs-flip 1 1 ∷ begins-one 1 ∷ to-offer) [] [] refl refl refl (refl, (refl, tt)) in
     omega (arith, f .0)
 
 -- only the one helped is logged: the canceller's own flip is finished too
-pub only-the-helped : Demand (emptyFlag 2 false) false (logs-flip 1 0 ∷ begins-one 1 ∷ offered) → ⊥
+pub only-the-helped : Demand (freshState 2 false) false (logs-flip 1 0 ∷ begins-one 1 ∷ offered) → ⊥
 only-the-helped d =
     let f = d .finished-once 1 [] [] (logs-flip 1 0 ∷ []) offered [] refl refl refl (refl, (refl, tt)) in
     omega (arith, f .0)
 
 -- a flip is logged only after its end, by a step of another thread
-pub logged-after-its-end : Demand (emptyFlag 2 false) false (logs-flip 1 0 ∷ begins-one 1 ∷ goes-on 0 ∷ goes-on 0 ∷ goes-on 0 ∷ begins-one 0 ∷ []) → ⊥
+pub logged-after-its-end : Demand (freshState 2 false) false (logs-flip 1 0 ∷ begins-one 1 ∷ goes-on 0 ∷ goes-on 0 ∷ goes-on 0 ∷ begins-one 0 ∷ []) → ⊥
 logged-after-its-end d =
     let f = d .finished-once 0 [] (logs-flip 1 0 ∷ begins-one 1 ∷ []) (goes-on 0 ∷ goes-on 0 ∷ goes-on 0 ∷ []) [] [] refl refl refl (refl, (refl, tt)) in
     omega (arith, f .1)
@@ -61,7 +61,7 @@ logged-after-its-end d =
 abbrev next-one : Hist
 next-one = logs-twice 0 ∷ goes-on 0 ∷ begins-one 0 ∷ []
 
-pub made-up-for : Demand (emptyFlag 1 false) false (next-one ++ (goes-on 0 ∷ goes-on 0 ∷ goes-on 0 ∷ begins-one 0 ∷ [])) → ⊥
+pub made-up-for : Demand (freshState 1 false) false (next-one ++ (goes-on 0 ∷ goes-on 0 ∷ goes-on 0 ∷ begins-one 0 ∷ [])) → ⊥
 made-up-for d =
     let f = d .finished-once 0 next-one [] (goes-on 0 ∷ goes-on 0 ∷ goes-on 0 ∷ []) [] [] refl refl refl (refl, (refl, tt)) in
     omega (arith, f .0)

@@ -1,16 +1,15 @@
 -- Each public function's promise settles its answer: two answers that meet it are equal. Assumes nothing.
-use mathlib.Core.Path.{_≡_, sym, _∙_}
+use mathlib.Core.Path.{_≡_}
 use mathlib.Core.Bool.{Bool}
 use mathlib.Core.List.{List}
 use Prim.Native.Nat.{ℕ}
-use lib.Dec.{leb}
 use Rattle.rows.specs.Stores.{Laid}
 use Rattle.rows.specs.Walk.{pieces}
-use Rattle.rows.proofs.Settled.{laid-settled}
+use Rattle.rows.proofs.Settled.{settled, laid-settled}
 use Rattle.machine.specs.Check.{first}
-use Rattle.machine.specs.Move.{moveCode}
 use Rattle.schedule.specs.declared.steps.Step.{Step}
-use Rattle.flag.specs.Flag.{freshOf, insideTests, idleTests, busyTests, went, owner, flipped}
+use Rattle.flag.specs.Flag.{freshOf, insideTests, idleTests, went, owner, flipped}
+use Rattle.flag.specs.Moved.{mayMove}
 use Rattle.flag.specs.Sound.{sound}
 use Rattle.flag.specs.Image.{entryBytes, imageBytes}
 use Rattle.flag.specs.Single.{Singled}
@@ -21,17 +20,13 @@ use Rattle.flag.specs.declared.moves.Went.{Went}
 use Rattle.flag.specs.declared.entry.Entry.{Entry}
 use Rattle.flag.specs.declared.single.Answer.{Answer}
 
--- a promise that names its answer
-settled : {A : Type 0} {r q x : A} → r ≡ x → q ≡ x → r ≡ q
-settled a b = a ∙ sym b
-
 -- ---------- state and sound
 
 pub fresh-settled : (threads : ℕ) (value : Bool) {r q : Made} → r ≡ freshOf threads value → q ≡ freshOf threads value → r ≡ q
 fresh-settled threads value = settled
 
-pub image-settled : (s : State) (l : List ℕ) {r q : ℕ} {l′ m : List ℕ} → Laid l 0 (imageBytes s) r l′ → Laid l 0 (imageBytes s) q m → (r ≡ q) × (l′ ≡ m)
-image-settled s l a b = laid-settled a b
+pub image-settled : (s : State) {l : List ℕ} {r q : ℕ} {l′ m : List ℕ} → Laid l 0 (imageBytes s) r l′ → Laid l 0 (imageBytes s) q m → (r ≡ q) × (l′ ≡ m)
+image-settled s = laid-settled
 
 pub is-sound-settled : (s : State) {r q : Bool} → r ≡ sound s → q ≡ sound s → r ≡ q
 is-sound-settled s = settled
@@ -44,24 +39,25 @@ inside-settled threads k = settled
 pub may-begin-settled : (place : ℕ) {r q : ℕ} → r ≡ first (idleTests place) → q ≡ first (idleTests place) → r ≡ q
 may-begin-settled place = settled
 
-pub may-move-settled : (place : ℕ) {r q : ℕ} → r ≡ moveCode (busyTests place) (leb place 6) → q ≡ moveCode (busyTests place) (leb place 6) → r ≡ q
+pub may-move-settled : (place : ℕ) {r q : ℕ} → r ≡ mayMove place → q ≡ mayMove place → r ≡ q
 may-move-settled place = settled
 
 pub exchange-settled : (place pending : ℕ) (value : Bool) {r q : Went} → r ≡ went place pending value → q ≡ went place pending value → r ≡ q
 exchange-settled place pending value = settled
 
-pub offering-settled : (places : List ℕ) {r q : ℕ} → r ≡ owner places → q ≡ owner places → r ≡ q
-offering-settled places = settled
+pub owner-settled : (places : List ℕ) {r q : ℕ} → r ≡ owner places → q ≡ owner places → r ≡ q
+owner-settled places = settled
 
 -- ---------- entry
 
-pub put-entry-settled : (l : List ℕ) (at : ℕ) (e : Entry) {r q : ℕ} {l′ m : List ℕ} → Laid l at (entryBytes e) r l′ → Laid l at (entryBytes e) q m → (r ≡ q) × (l′ ≡ m)
-put-entry-settled l at e a b = laid-settled a b
+pub put-entry-settled : (e : Entry) {l : List ℕ} {at r q : ℕ} {l′ m : List ℕ} → Laid l at (entryBytes e) r l′ → Laid l at (entryBytes e) q m
+    → (r ≡ q) × (l′ ≡ m)
+put-entry-settled e = laid-settled
 
-pub put-flips-settled : (l : List ℕ) (at : ℕ) (flips : Flips) (places : List ℕ) (k : ℕ) {r q : ℕ} {l′ m : List ℕ}
+pub put-flips-settled : (flips : Flips) (places : List ℕ) (k : ℕ) {l : List ℕ} {at r q : ℕ} {l′ m : List ℕ}
     → Laid l at (pieces entryBytes (flipped flips (owner places) k)) r l′ → Laid l at (pieces entryBytes (flipped flips (owner places) k)) q m
     → (r ≡ q) × (l′ ≡ m)
-put-flips-settled l at flips places k a b = laid-settled a b
+put-flips-settled flips places k = laid-settled
 
 -- ---------- single
 

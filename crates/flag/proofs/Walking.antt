@@ -12,7 +12,7 @@ use Rattle.rows.specs.Walk.{every, many}
 use Rattle.rows.proofs.Cases.{on}
 use Rattle.rows.proofs.Walks.{every-more, every-stop, every-end, many-more, many-skip, many-end}
 use Rattle.schedule.specs.Limits as limit
-use Rattle.flag.specs.Sound.{placeSound, isFive, isSix, handshake, placesSound}
+use Rattle.flag.specs.Sound.{placeSound, atSecond, atStore, handshake, placesSound}
 use Rattle.flag.specs.declared.state.State.{State}
 
 -- a test as a number is at most 1, and counts the entry that it tests
@@ -34,8 +34,8 @@ module _ (s : State) where
     pub few-fives : fives ≤ i
     pub few-sixes : sixes ≤ i
     pub rest : every (placeSound (s .threads)) i (drop i (s .places)) ≡ every (placeSound (s .threads)) 0 (s .places)
-    pub at-five : fives + many isFive (drop i (s .places)) ≡ many isFive (s .places)
-    pub at-six : sixes + many isSix (drop i (s .places)) ≡ many isSix (s .places)
+    pub at-five : fives + many atSecond (drop i (s .places)) ≡ many atSecond (s .places)
+    pub at-six : sixes + many atStore (drop i (s .places)) ≡ many atStore (s .places)
 
   pub walking-begins : length (s .places) ≡ limit.threads → Walking 0 0 0
   walking-begins l =
@@ -45,8 +45,8 @@ module _ (s : State) where
         few-fives = omega arith;
         few-sixes = omega arith;
         rest = refl;
-        at-five = zero-add (many isFive (s .places));
-        at-six = zero-add (many isSix (s .places));
+        at-five = zero-add (many atSecond (s .places));
+        at-six = zero-add (many atStore (s .places));
       }
 
   module _ (i fives sixes : ℕ) (w : Walking i fives sixes) where
@@ -63,8 +63,8 @@ module _ (s : State) where
     pub walking-ends : limit.threads ≤ i → (b : Bool) → b ≡ handshake (s .pending) fives sixes → b ≡ placesSound s
     walking-ends h b e =
         let l : length (s .places) ≤ i = omega (arith, w .long) in
-        let five = many-end isFive (s .places) 0 fives i _ (w .at-five) l in
-        let six = many-end isSix (s .places) 0 sixes i _ (w .at-six) l in
+        let five = many-end atSecond (s .places) 0 fives i _ (w .at-five) l in
+        let six = many-end atStore (s .places) 0 sixes i _ (w .at-six) l in
         rw (e, ← every-end (placeSound (s .threads)) (s .places) 0 i _ (w .rest) l, ← five, ← six)
 
     module _ (h : i < limit.threads) (b : Bool) (told : b ≡ placeSound (s .threads) i (getD (s .places) i 0)) where
@@ -74,14 +74,14 @@ module _ (s : State) where
       pub walking-stops : b ≡ false → false ≡ placesSound s
       walking-stops e = rw (← every-stop (placeSound (s .threads)) (s .places) 0 i _ (w .rest) inside (sym told ∙ e))
 
-      pub walking-more : b ≡ true → Walking (i + 1) (fives + boolByte (isFive (getD (s .places) i 0))) (sixes + boolByte (isSix (getD (s .places) i 0)))
+      pub walking-more : b ≡ true → Walking (i + 1) (fives + boolByte (atSecond (getD (s .places) i 0))) (sixes + boolByte (atStore (getD (s .places) i 0)))
       walking-more e =
           record {
             below = omega arith;
             long = w .long;
-            few-fives = omega (arith, w .few-fives, bit-small (isFive (getD (s .places) i 0)));
-            few-sixes = omega (arith, w .few-sixes, bit-small (isSix (getD (s .places) i 0)));
+            few-fives = omega (arith, w .few-fives, bit-small (atSecond (getD (s .places) i 0)));
+            few-sixes = omega (arith, w .few-sixes, bit-small (atStore (getD (s .places) i 0)));
             rest = every-more (placeSound (s .threads)) (s .places) 0 i _ (w .rest) inside (sym told ∙ e);
-            at-five = many-bit isFive (s .places) fives i _ (w .at-five) inside;
-            at-six = many-bit isSix (s .places) sixes i _ (w .at-six) inside;
+            at-five = many-bit atSecond (s .places) fives i _ (w .at-five) inside;
+            at-six = many-bit atStore (s .places) sixes i _ (w .at-six) inside;
           }

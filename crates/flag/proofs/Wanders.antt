@@ -12,10 +12,10 @@ use Rattle.machine.proofs.Replays.{zero-all}
 use Rattle.machine.proofs.Pasts.{after-append, accepted-append}
 use Rattle.schedule.specs.declared.steps.FlagStep.{FlagStep}
 use Rattle.schedule.specs.declared.steps.FlagStep.the-variants.{Begin, Move, Read}
-use Rattle.flag.specs.Flag.{flag, emptyFlag, place, next}
+use Rattle.flag.specs.Flag.{flag, freshState, place, next}
 use Rattle.flag.specs.Refined.{Sound, moves-of, Wanders}
 use Rattle.flag.specs.declared.state.State.{State}
-use Rattle.flag.proofs.Sounds.{sound-told}
+use Rattle.flag.proofs.Sounds.{sound-means}
 
 -- ---------- thread k is in a flip all along
 
@@ -56,7 +56,8 @@ times zero xs = []
 times (suc n) xs = xs ++ times n xs
 
 -- steps that lead back to where they start, with k in its flip all along and at least one move of its own
-module _ (s : State) (k : ℕ) (xs : List FlagStep) (a : AllAccepted flag s xs) (r : after flag s xs ≡ s) (b : always-busy k s xs ≡ true) (h : busy k s ≡ true) (m : 1 ≤ moves-of k xs) where
+module _ (s : State) (k : ℕ) (xs : List FlagStep) (a : AllAccepted flag s xs) (r : after flag s xs ≡ s)
+    (b : always-busy k s xs ≡ true) (h : busy k s ≡ true) (m : 1 ≤ moves-of k xs) where
   all-times : (n : ℕ) → AllAccepted flag s (times n xs)
   all-times zero = tt
   all-times (suc n) = accepted-append flag s xs (times n xs) a (rw r (all-times n))
@@ -86,7 +87,7 @@ module _ (s : State) (k : ℕ) (xs : List FlagStep) (a : AllAccepted flag s xs) 
 -- ---------- P12: flag false, 2 threads, after b0: m0 m0 b1 m1 m1 m1 m0 m0 m0 b1 m1 m1
 
 abbrev begun : State
-begun = next (emptyFlag 2 false) (Begin 0)
+begun = next (freshState 2 false) (Begin 0)
 
 abbrev cycle : List FlagStep
 cycle =
@@ -101,4 +102,4 @@ unfolding replay
 cycle-accepted = zero-all flag begun cycle refl
 
 pub unbounded : (s : State) × (Sound s × ((n : ℕ) → Wanders s 0 n))
-unbounded = (begun, (sound-told begun refl refl, wanders begun 0 cycle cycle-accepted refl refl refl (omega arith)))
+unbounded = (begun, (sound-means begun refl refl, wanders begun 0 cycle cycle-accepted refl refl refl (omega arith)))

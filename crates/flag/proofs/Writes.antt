@@ -8,14 +8,16 @@ use borrow.Author.Tests.{leb-true, leb-false, ltb-true}
 use mir.Syntax.{w64}
 use mir.Val.{Fits, boolByte}
 use lib.Dec.{leb, ltb}
-use lib.ListN.{length, set, take}
+use lib.ListN.{length, set, take, length-take}
 use Rattle.rows.specs.Stores.{Laid}
 use Rattle.rows.specs.Walk.{pieces}
 use Rattle.rows.proofs.Cases.{on}
 use Rattle.rows.proofs.Rows.{first-long}
 use Rattle.rows.proofs.Stores.{whole-laid, none-laid, laid-then}
 use Rattle.schedule.specs.Limits as limit
-use Rattle.flag.specs.Flag.{flipped, owner}
+use Rattle.schedule.specs.declared.steps.FlagStep.{FlagStep}
+use Rattle.schedule.specs.declared.steps.FlagStep.the-variants.{Begin, Move, Read}
+use Rattle.flag.specs.Flag.{wentBy, flipped, owner, logs}
 use Rattle.flag.specs.Image.{entryBytes, imageBytes, inUse}
 use Rattle.flag.specs.declared.state.State.{State}
 use Rattle.flag.specs.declared.entry.Entry.{Entry}
@@ -66,9 +68,20 @@ module _ (flips : Flips) (places l : List ℕ) (at k : ℕ) where
         → Laid l at (entryBytes (Flip o)) p m → Laid m p (entryBytes (Flip k)) r l′ → Laid l at (pieces entryBytes (flipped flips (owner places) k)) r l′
     flips-both h q o p m r l′ w a b = rw (e, ← w) (laid-then l at (entryBytes (Flip o)) (entryBytes (Flip k)) p m r l′ (omega arith) a b)
 
+few-flips : (f : Flips) (o k : ℕ) → length (pieces entryBytes (flipped f o k)) ≤ limit.entry
+few-flips Nobody o k = omega arith
+few-flips Mover o k = omega arith
+few-flips Both o k = omega arith
+
+-- whatever a step logs is few bytes
+pub logs-short : (s : State) (x : FlagStep) → length (pieces entryBytes (logs s x)) ≤ limit.entry
+logs-short s (Begin k) = omega arith
+logs-short s (Move k) = few-flips (wentBy s k .flips) (owner (s .places)) k
+logs-short s (Read k) = omega arith
+
 -- ---------- the image
 
-pub used-small : (t : ℕ) → inUse t ≤ limit.threads
+used-small : (t : ℕ) → inUse t ≤ limit.threads
 used-small t = on (ltb t limit.threads)
     (λ b. let h : t < limit.threads = ltb-true t limit.threads b in rw b (omega arith))
     (λ b. rw b (omega arith))
@@ -96,3 +109,7 @@ module _ (s : State) (n : ℕ) (e : n ≡ inUse (s .threads)) where
       image-laid h a b c k m o p q r =
           let front = laid-then l 0 (boolByte (s .value) ∷ []) (s .pending ∷ []) a k b m (omega arith) p q in
           rw (← e) (laid-then l 0 (boolByte (s .value) ∷ s .pending ∷ []) (take n (s .places)) b m c o (omega (arith, used-long)) front r)
+
+-- an image is small: it tells of no more threads than there is room for
+pub image-small : (s : State) → length (imageBytes s) ≤ limit.image
+image-small s = simp length-take (omega (arith, used-small (s .threads)))

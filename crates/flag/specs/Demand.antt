@@ -10,7 +10,7 @@ use Rattle.machine.specs.Replay.{after}
 use Rattle.schedule.specs.Limits as limit
 use Rattle.schedule.specs.declared.steps.FlagStep.{FlagStep}
 use Rattle.schedule.specs.declared.steps.FlagStep.the-variants.{Begin, Move, Read}
-use Rattle.flag.specs.Flag.{flag, emptyFlag}
+use Rattle.flag.specs.Flag.{flag, freshState}
 use Rattle.flag.specs.declared.state.State.{State}
 use Rattle.flag.specs.declared.entry.Entry.{Entry}
 use Rattle.flag.specs.declared.entry.Entry.the-variants.{Flip, Saw}
@@ -73,4 +73,4 @@ pub record Demand (s₀ : State) (v₀ : Bool) (h : Hist) : Type 0 where
   pub reads : (k : ℕ) (later before : Hist) (es : List Entry) → h ≡ later ++ (event (Read k) es ∷ before) → es ≡ Saw k (turned (allFlips before) v₀) ∷ []
 
 abbrev pub Demanded : Type 0
-Demanded = (n : ℕ) (v₀ : Bool) → 1 ≤ n → n ≤ limit.threads → (h : Hist) (s : State) → Run flag (emptyFlag n v₀) h s → Demand (emptyFlag n v₀) v₀ h
+Demanded = (n : ℕ) (v₀ : Bool) → 1 ≤ n → n ≤ limit.threads → (h : Hist) (s : State) → Run flag (freshState n v₀) h s → Demand (freshState n v₀) v₀ h

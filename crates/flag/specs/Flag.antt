@@ -7,7 +7,7 @@ use lib.Dec.{eqb, ltb}
 use lib.ListN.{getD, set, replicate}
 use Rattle.machine.specs.Check.{Check, need, rises}
 use Rattle.machine.specs.Machine.{Machine}
-use Rattle.schedule.specs.Codes as code
+use Rattle.machine.specs.Codes as code
 use Rattle.schedule.specs.Limits as limit
 use Rattle.schedule.specs.declared.steps.FlagStep.{FlagStep}
 use Rattle.schedule.specs.declared.steps.FlagStep.the-variants.{Begin, Move, Read}
@@ -21,14 +21,14 @@ use Rattle.flag.specs.declared.entry.Entry.the-variants.{Flip, Saw}
 
 -- ---------- fresh: nobody in a flip, nothing pending; bad parameters are 5 with a state of zeros
 
-abbrev pub emptyFlag : ℕ → Bool → State
-emptyFlag threads value = record { threads = threads; pending = 0; value = value; places = replicate limit.threads 0 }
+abbrev pub freshState : ℕ → Bool → State
+freshState threads value = record { threads = threads; pending = 0; value = value; places = replicate limit.threads 0 }
 
 abbrev pub freshOf : ℕ → Bool → Made
 freshOf threads value =
-    cond (eqb threads 0) (record { state = emptyFlag 0 false; code = code.parameter })
-    (cond (ltb limit.threads threads) (record { state = emptyFlag 0 false; code = code.parameter })
-    (record { state = emptyFlag threads value; code = code.accepted }))
+    cond (eqb threads 0) (record { state = freshState 0 false; code = code.parameter })
+    (cond (ltb limit.threads threads) (record { state = freshState 0 false; code = code.parameter })
+    (record { state = freshState threads value; code = code.accepted }))
 
 -- ---------- the tests: the thread is there, then its place
 

@@ -1,6 +1,6 @@
 -- When a state is sound: the test that the code makes, one walk over the threads. specs/Refined.antt says what it means. Assumes nothing.
 use Prim.Native.Nat.{ℕ, _+_}
-use mathlib.Core.Bool.{Bool, true, false, cond, not, _&&_}
+use mathlib.Core.Bool.{Bool, false, cond, not, _&&_}
 use lib.Dec.{eqb, ltb, leb}
 use Rattle.rows.specs.Walk.{every, many}
 use Rattle.schedule.specs.Limits as limit
@@ -10,11 +10,12 @@ use Rattle.flag.specs.declared.state.State.{State}
 abbrev pub placeSound : ℕ → ℕ → ℕ → Bool
 placeSound threads i p = cond (ltb i threads) (leb p 6) (eqb p 0)
 
-abbrev pub isFive : ℕ → Bool
-isFive p = eqb p 5
+-- before the second exchange of try_handshake, and before its store
+abbrev pub atSecond : ℕ → Bool
+atSecond p = eqb p 5
 
-abbrev pub isSix : ℕ → Bool
-isSix p = eqb p 6
+abbrev pub atStore : ℕ → Bool
+atStore p = eqb p 6
 
 -- pending 0 with no thread at 5 or 6; 1 with exactly one at 5, none at 6; 2 with exactly one at 5 or 6
 abbrev pub handshake : ℕ → ℕ → ℕ → Bool
@@ -25,7 +26,7 @@ handshake pending fives sixes =
     false))
 
 abbrev pub placesSound : State → Bool
-placesSound s = every (placeSound (s .threads)) 0 (s .places) && handshake (s .pending) (many isFive (s .places)) (many isSix (s .places))
+placesSound s = every (placeSound (s .threads)) 0 (s .places) && handshake (s .pending) (many atSecond (s .places)) (many atStore (s .places))
 
 abbrev pub sound : State → Bool
 sound s = not (eqb (s .threads) 0) && (not (ltb limit.threads (s .threads)) && placesSound s)

@@ -1,10 +1,9 @@
 -- helping.rs, Flag: its machine is the code of `flip` and `read`. Here is, for each place of the loop in `flip`, the atomic operation that comes next and
--- where control goes when it succeeds and when it fails; whose flips an operation carries out; and FlagInv with the protocol's three cases, under the
--- source's names. Assumes nothing.
+-- where control goes when it succeeds and when it fails; whose flips an operation carries out; and so the transitions of a flag and its threads: `flip`
+-- is called, a thread in it goes on by one operation, `read` loads the value. Assumes nothing.
 use Prim.Native.Nat.{ℕ, _<_}
 use mathlib.Core.Path.{_≡_}
 use mathlib.Core.Bool.{Bool, true, false, cond, Bool·beq}
-use mathlib.Core.Logic.{_⊎_}
 use lib.Dec.{eqb}
 
 -- ---------- the loop of `flip`
@@ -92,15 +91,52 @@ resolves try-handshake m = none-resolved
 resolves try-handshake-second m = none-resolved
 resolves try-handshake-store m = none-resolved
 
--- ---------- FlagInv: what `pending` says of the offer. A thread makes it at try_handshake and stands at the second exchange until it looks
+-- ---------- a flag and its threads
 
-abbrev pub Waits : Control → Type 0
-Waits c = (c ≡ try-handshake-second) ⊎ (c ≡ try-handshake-store)
+-- the two atomics, how many threads use them, and before which operation each thread stands
+pub record Flag : Type 0 where
+  pub memory : Memory
+  pub threads : ℕ
+  pub controls : ℕ → Control
 
-pub data Protocol (pending : ℕ) (at : ℕ → Control) : Type 0 where
-  -- nobody offers
-  Empty : pending ≡ 0 → ((k : ℕ) → Waits (at k) → ⊥) → Protocol pending at
-  -- one thread offers its flip, and has not looked again
-  Offering : (k : ℕ) → pending ≡ 1 → at k ≡ try-handshake-second → ((j : ℕ) → Waits (at j) → j ≡ k) → Protocol pending at
-  -- its flip was carried out by another, and it has not taken note
-  Accepted : (k : ℕ) → pending ≡ 2 → Waits (at k) → ((j : ℕ) → Waits (at j) → j ≡ k) → Protocol pending at
+-- new(init), with nobody in `flip`
+abbrev pub new : ℕ → Bool → Flag
+new threads init = record { memory = record { value = init; pending = 0 }; threads = threads; controls = λ k. returned }
+
+-- thread k stands before another operation, and the atomics hold m
+abbrev pub with-thread : Flag → ℕ → Control → Memory → Flag
+with-thread pre k c m = record { memory = m; threads = pre .threads; controls = λ j. cond (eqb j k) c (pre .controls j) }
+
+-- ---------- the transitions, each of a thread that the flag has: who is none of its threads never moves
+
+pub record Flip-called (pre : Flag) (k : ℕ) (post : Flag) : Type 0 where
+  pub thread : k < pre .threads
+  pub outside : pre .controls k ≡ returned
+  pub update : post ≡ with-thread pre k try-cancel-two-flips (pre .memory)
+
+pub record Flip-goes-on (pre : Flag) (k : ℕ) (post : Flag) : Type 0 where
+  pub thread : k < pre .threads
+  pub inside : pre .controls k ≡ returned → ⊥
+  pub update : post ≡ with-thread pre k (control-after (pre .controls k) (pre .memory)) (memory-after (pre .controls k) (pre .memory))
+
+pub record Read-called (pre : Flag) (k : ℕ) (post : Flag) : Type 0 where
+  pub thread : k < pre .threads
+  pub outside : pre .controls k ≡ returned
+  pub update : post ≡ pre
+
+pub data Transition : Type 0 where
+  begin : ℕ → Transition
+  move : ℕ → Transition
+  read : ℕ → Transition
+
+abbrev pub Moves : Flag → Transition → Flag → Type 0
+Moves pre (begin k) post = Flip-called pre k post
+Moves pre (move k) post = Flip-goes-on pre k post
+Moves pre (read k) post = Read-called pre k post
+
+-- an exchange looks before it writes, and takes nothing for granted; the store does not look, and the source owes that it takes note of an offer that was
+-- accepted
+abbrev pub Safe : Flag → Transition → Type 0
+Safe pre (begin k) = Unit {0}
+Safe pre (move k) = pre .controls k ≡ try-handshake-store → pre .memory .pending ≡ 2
+Safe pre (read k) = Unit {0}

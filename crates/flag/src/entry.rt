@@ -80,7 +80,7 @@ pub fn put_flips(
             if log.len() - 6 < at {
                 return at;
             }
-            let o = moves::offering(places);
+            let o = moves::owner(places);
             let p = put_flip(log, at, o);
             put_flip(log, p, k)
         }

@@ -1,12 +1,12 @@
 // One move of a thread, shared by the single step and by the replay loop: from its place and the flag's head to its next place, as the source's
 // loop goes on after the exchange that the place stands before.
-use schedule::codes;
+use machine::codes;
 use schedule::limits;
 ghost use mathlib.Core.Path.{_≡_};
-ghost use lib.Dec.{leb};
 ghost use Rattle.machine.specs.Check.{first};
-ghost use Rattle.machine.specs.Move.{moveCode};
-ghost use Rattle.flag.specs.Flag.{insideTests, idleTests, busyTests, went, owner};
+ghost use Rattle.flag.specs.Flag as machine;
+ghost use Rattle.flag.specs.Flag.{insideTests, idleTests, went};
+ghost use Rattle.flag.specs.Moved.{mayMove};
 
 // Whose flips a move carries out.
 pub enum Flips {
@@ -46,7 +46,7 @@ pub fn may_begin(place: u8) -> u8
 
 // A move needs a thread in its flip; a place that no thread has is not sound.
 pub fn may_move(place: u8) -> u8
-    ensures { λ r. ⌜ r ≡ moveCode (busyTests place) (leb place 6) ⌝ }
+    ensures { λ r. ⌜ r ≡ mayMove place ⌝ }
 {
     if place == 0 {
         return codes::PHASE;
@@ -109,8 +109,8 @@ pub fn exchange(place: u8, pending: u8, value: bool) -> Went
 }
 
 // The first thread that offers its flip, found only when the flip is taken.
-pub fn offering(places: [u8; limits::THREADS]) -> u8
-    ensures { λ r. ⌜ r ≡ owner places ⌝ }
+pub fn owner(places: [u8; limits::THREADS]) -> u8
+    ensures { λ r. ⌜ r ≡ machine.owner places ⌝ }
 {
     let mut i: usize = 0;
     while i < limits::THREADS {

@@ -5,7 +5,7 @@ use super::moves;
 use super::moves::Went;
 use super::sound;
 use super::state::State;
-use schedule::codes;
+use machine::codes;
 use schedule::limits;
 use schedule::steps::FlagStep;
 use schedule::steps::Step;
@@ -17,7 +17,7 @@ ghost use Rattle.schedule.specs.Limits as limit;
 ghost use Rattle.schedule.specs.declared.steps.FlagStep.the-variants.{Begin, Move, Read};
 ghost use Rattle.flag.specs.Flag.{withPlace};
 ghost use Rattle.flag.specs.Sound as test;
-ghost use Rattle.flag.specs.Single.{Singled, Applied, quietly, told};
+ghost use Rattle.flag.specs.Single.{Singled, Applied, quietly, answer};
 
 // The state after the step, or the state as it was; the place is always 0; the entry's length.
 pub struct Answer {
@@ -53,7 +53,7 @@ fn tested(s: State, x: FlagStep, log: &mut [u8]) -> Answer
 
 // An answer that logs nothing.
 fn quiet(s: State, code: u8) -> Answer
-    ensures { λ r. ⌜ r ≡ told s 0 code ⌝ }
+    ensures { λ r. ⌜ r ≡ answer s 0 code ⌝ }
 {
     Answer {
         state: s,
@@ -70,8 +70,8 @@ fn apply(s: State, x: FlagStep, log: &mut [u8]) -> Answer
 {
     match x {
         FlagStep::Begin { k } => begin(s, k),
-        FlagStep::Move { k } => go(s, k, log),
-        FlagStep::Read { k } => see(s, k, log),
+        FlagStep::Move { k } => move_on(s, k, log),
+        FlagStep::Read { k } => read(s, k, log),
     }
 }
 
@@ -94,8 +94,8 @@ fn begin(s: State, k: u8) -> Answer
     quiet(after, codes::ACCEPTED)
 }
 
-// A move, under the name that the language leaves it.
-fn go(s: State, k: u8, log: &mut [u8]) -> Answer
+// A move, under a name that the language leaves free.
+fn move_on(s: State, k: u8, log: &mut [u8]) -> Answer
     requires { ⌜ test.sound s ≡ true ⌝ }
     requires { ⌜ limit.entry ≤ length (now log) ⌝ }
     ensures { λ r. ⌜ Applied s (Move k) (now (log .entry)) r (now (log .exit)) ⌝ }
@@ -114,10 +114,10 @@ fn go(s: State, k: u8, log: &mut [u8]) -> Answer
     let flips = w.flips;
     let places = s.places;
     let n = entry::put_flips(log, 0, flips, places, k);
-    moved(s, i, w, n)
+    with_place(s, i, w, n)
 }
 
-fn see(s: State, k: u8, log: &mut [u8]) -> Answer
+fn read(s: State, k: u8, log: &mut [u8]) -> Answer
     requires { ⌜ test.sound s ≡ true ⌝ }
     requires { ⌜ limit.entry ≤ length (now log) ⌝ }
     ensures { λ r. ⌜ Applied s (Read k) (now (log .entry)) r (now (log .exit)) ⌝ }
@@ -141,10 +141,10 @@ fn see(s: State, k: u8, log: &mut [u8]) -> Answer
     }
 }
 
-// The state with thread i where the move led it.
-fn moved(s: State, i: usize, w: Went, logged: usize) -> Answer
+// The answer with thread i where the move led it, and the entries' length.
+fn with_place(s: State, i: usize, w: Went, logged: usize) -> Answer
     requires { ⌜ i < limit.threads ⌝ }
-    ensures { λ r. ⌜ r ≡ told (withPlace s i (w .place) (w .pending) (w .value)) logged 0 ⌝ }
+    ensures { λ r. ⌜ r ≡ answer (withPlace s i (w .place) (w .pending) (w .value)) logged 0 ⌝ }
 {
     let mut after = s;
     after.places[i] = w.place;

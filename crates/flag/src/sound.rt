@@ -3,7 +3,8 @@ use super::state::State;
 use schedule::limits;
 ghost use mathlib.Core.Path.{_≡_};
 ghost use Prim.Native.Nat.{_+_, _≤_};
-ghost use Rattle.flag.specs.Sound.{sound, placesSound, placeSound, handshake};
+ghost use Rattle.flag.specs.Sound as test;
+ghost use Rattle.flag.specs.Sound.{sound, placesSound, placeSound};
 
 pub fn is_sound(s: State) -> bool
     ensures { λ r. ⌜ r ≡ sound s ⌝ }
@@ -34,7 +35,7 @@ fn places_sound(s: State) -> bool
         }
         return false;
     }
-    hands(s.pending, fives, sixes)
+    handshake(s.pending, fives, sixes)
 }
 
 // A thread's place is 0 to 6; what is no thread has place 0.
@@ -48,9 +49,9 @@ fn place_sound(threads: u8, i: usize, p: u8) -> bool
 }
 
 // Pending 0 with no thread at 5 or 6; 1 with exactly one at 5, none at 6; 2 with exactly one at 5 or 6.
-fn hands(pending: u8, fives: usize, sixes: usize) -> bool
+fn handshake(pending: u8, fives: usize, sixes: usize) -> bool
     requires { ⌜ fives + sixes ≤ 255 ⌝ }
-    ensures { λ r. ⌜ r ≡ handshake pending fives sixes ⌝ }
+    ensures { λ r. ⌜ r ≡ test.handshake pending fives sixes ⌝ }
 {
     if pending == 0 {
         if fives == 0 {

@@ -1,12 +1,9 @@
 // The state of the flag: fresh, and its image.
-use schedule::codes;
+use machine::codes;
 use schedule::limits;
 ghost use mathlib.Core.Path.{_≡_};
-ghost use Prim.Native.Nat.{_+_, _≤_};
-ghost use lib.ListN.{length, take};
 ghost use Rattle.rows.specs.Stores.{Laid};
-ghost use Rattle.schedule.specs.Limits as limit;
-ghost use Rattle.flag.specs.Flag.{emptyFlag, freshOf};
+ghost use Rattle.flag.specs.Flag.{freshState, freshOf};
 ghost use Rattle.flag.specs.Image.{imageBytes, inUse};
 
 // Each thread's place in the source's loop: 0 idle, 1 to 6 before the exchange or store that it will try next.
@@ -37,7 +34,7 @@ pub fn fresh(threads: u8, value: bool) -> Made
 
 // No thread in a flip.
 fn idle(threads: u8, value: bool, code: u8) -> Made
-    ensures { λ r. ⌜ r ≡ record { state = emptyFlag threads value; code = code } ⌝ }
+    ensures { λ r. ⌜ r ≡ record { state = freshState threads value; code = code } ⌝ }
 {
     let places = [0u8; limits::THREADS];
     let state = State {

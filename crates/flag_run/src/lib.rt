@@ -4,24 +4,22 @@ use flag::entry::Entry;
 use flag::moves;
 use flag::state;
 use flag::state::State;
+use machine::codes;
 use schedule::answer;
 use schedule::answer::Answer;
-use schedule::codes;
 use schedule::count;
 use schedule::count::Counted;
 use schedule::front;
 use schedule::kinds;
+use schedule::lengths;
 use schedule::limits;
 use schedule::read;
 use schedule::steps::FlagStep;
 ghost use lib.ListN.{length};
-ghost use Rattle.schedule.specs.Answers.{Leaves, restFrom};
-ghost use Rattle.schedule.specs.Running.{Counts, Runnable, Ended};
-ghost use Rattle.schedule.specs.Spelling as spelled;
+ghost use Rattle.schedule.specs.Answers.{Leaves};
+ghost use Rattle.schedule.specs.Running.{Counts, Runnable, Ended, restRun};
 ghost use Rattle.schedule.specs.Widths as kind;
-ghost use Rattle.flag.specs.Flag.{flag};
-ghost use Rattle.flag.specs.Image.{entryBytes, imageBytes};
-ghost use Rattle.flag_run.specs.Run.{Good, leftBy, restOfFile};
+ghost use Rattle.flag_run.specs.Run.{runner, leftBy, restOfFile};
 
 // What a run leaves: the state after the accepted steps, the index of the step that stopped it or the number of steps, and how far the log is
 // written.
@@ -34,8 +32,8 @@ pub struct Ran {
 
 // The next n steps of a file on a state, their entries into the log from `used` on.
 fn run(file: &[u8], from: usize, n: usize, start: State, log: &mut [u8], used: usize) -> Ran
-    requires { ⌜ Runnable flag spelled.flag Good (now file) from n start used (length (now log)) ⌝ }
-    ensures { λ r. ⌜ Ended flag spelled.flag entryBytes (now (file .entry)) from n start (now (log .entry)) used (leftBy r (now (log .exit))) ⌝ }
+    requires { ⌜ Runnable runner (now file) from n start used (length (now log)) ⌝ }
+    ensures { λ r. ⌜ Ended runner (now (file .entry)) from n start (now (log .entry)) used (leftBy r (now (log .exit))) ⌝ }
 {
     let mut s = start;
     let mut at = from;
@@ -74,7 +72,7 @@ fn run(file: &[u8], from: usize, n: usize, start: State, log: &mut [u8], used: u
                     };
                 }
                 s.places[i] = 1;
-                at += 3;
+                at += lengths::TAG_WHO;
                 k += 1;
                 continue;
             }
@@ -106,7 +104,7 @@ fn run(file: &[u8], from: usize, n: usize, start: State, log: &mut [u8], used: u
                 s.places[i] = g.place;
                 s.pending = g.pending;
                 s.value = g.value;
-                at += 3;
+                at += lengths::TAG_WHO;
                 k += 1;
                 continue;
             }
@@ -139,7 +137,7 @@ fn run(file: &[u8], from: usize, n: usize, start: State, log: &mut [u8], used: u
                         value: s.value,
                     },
                 );
-                at += 3;
+                at += lengths::TAG_WHO;
                 k += 1;
                 continue;
             }
@@ -180,8 +178,8 @@ fn replayed(
     image: &mut [u8],
 ) -> Answer
     requires { ⌜ Counts kind.flag (now file) from n ⌝ }
-    requires { ⌜ Good start ⌝ }
-    ensures { λ r. ⌜ Leaves (restFrom flag spelled.flag entryBytes imageBytes start (now (file .entry)) from (now (log .entry)) (now (image .entry))) r (now (log .exit)) (now (image .exit)) ⌝ }
+    requires { ⌜ runner .Good start ⌝ }
+    ensures { λ r. ⌜ Leaves (restRun runner start (now (file .entry)) from (now (log .entry)) (now (image .entry))) r (now (log .exit)) (now (image .exit)) ⌝ }
 {
     if log.len() < n * limits::ENTRY {
         return answer::refused(codes::ROOM, 0);

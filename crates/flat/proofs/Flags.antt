@@ -137,6 +137,7 @@ module _ {c : Client} {F : Type 0} {G : ℕ → Type 0} where
   set-asks (isHeld rid e g) n t = absurd (n rid g)
   set-asks (isTold rid resp e f) n t = clash (cc)
 
+  -- a client that the combiner has something of was gathered
   pub had-held : Stand c F G → (F → ⊥) → (rid : ℕ) × (c ≡ held rid) × G rid
   had-held (rests e f) n = absurd (n f)
   had-held (asks rid req e f) n = absurd (n f)

@@ -1,25 +1,26 @@
 -- what the functions' proofs cite
-pub mod Packing
-pub mod Writes
 pub mod Moved
-pub mod Answering
+pub mod Arms
 pub mod Stepping
--- stages of a client, soundness
-pub mod Flags
+pub mod Writes
+pub mod Packing
+-- the machine and its source
 pub mod Stages
 pub mod Tests
 pub mod Values
 pub mod Elems
 pub mod Maps
+pub mod Flags
 pub mod Unused
 pub mod Sounds
--- histories: one argument for soundness and the demand, and made-up histories that the demand refuses
-pub mod Keeps
+pub mod Kept
+pub mod Enabling
+pub mod Posts
+pub mod Upheld
+pub mod Inductive
+pub mod Refines
+-- demand 3, and the tables
 pub mod Demands
 pub mod Refuted
--- refinement
-pub mod Moves
-pub mod Refines
--- the table of cases, and what each contract settles
 pub mod Tabled
 pub mod Settled

@@ -9,7 +9,7 @@ use lib.ListN.{length, getD, set}
 use borrow.Author.Tests.{eqb-true}
 use Rattle.rows.proofs.Cases.{on}
 use Rattle.rows.proofs.Row.{row}
-use Rattle.flat.specs.Source.{Client, FlatCombiner}
+use Rattle.flat.specs.Source.{FlatCombiner}
 use Rattle.flat.specs.Flat.{zeroClient}
 use Rattle.flat.specs.declared.state.Client as own
 

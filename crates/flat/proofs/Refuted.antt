@@ -5,7 +5,8 @@ use mathlib.Core.List.{[], _∷_}
 use native.Mathlib.Omega.{arith}
 use Rattle.machine.specs.History.{Event}
 use Rattle.schedule.specs.declared.steps.FlatStep.{FlatStep}
-use Rattle.schedule.specs.declared.steps.FlatStep.the-variants.{ClientSend, ClientRecv, CombinerRecv, CombinerSkip, CombinerGoToResponding, CombinerSend, CombinerSendSkip, CombinerGoToCollecting}
+use Rattle.schedule.specs.declared.steps.FlatStep.the-variants.{ClientSend, ClientRecv, CombinerRecv, CombinerSkip, CombinerGoToResponding}
+use Rattle.schedule.specs.declared.steps.FlatStep.the-variants.{CombinerSend, CombinerSendSkip, CombinerGoToCollecting}
 use Rattle.flat.specs.Demand.{Hist, Message, Demand}
 use Rattle.flat.specs.declared.entry.Entry.{Entry}
 use Rattle.flat.specs.declared.entry.Entry.the-variants.{Answer}

@@ -1,13 +1,13 @@
 -- Each public function's promise settles its answer: two answers that meet it are equal. Assumes nothing.
-use mathlib.Core.Path.{_≡_, sym, _∙_}
+use mathlib.Core.Path.{_≡_}
 use mathlib.Core.Bool.{Bool}
 use mathlib.Core.List.{List}
 use Prim.Native.Nat.{ℕ}
 use Rattle.rows.specs.Stores.{Laid}
-use Rattle.rows.proofs.Settled.{laid-settled}
+use Rattle.rows.proofs.Settled.{settled, laid-settled}
 use Rattle.machine.specs.Check.{first}
 use Rattle.schedule.specs.declared.steps.Step.{Step}
-use Rattle.flat.specs.Flat.{zeroElem, freshOf, insideTests, gatherTests, fullTests, serveTests, doneTests, freeTests}
+use Rattle.flat.specs.Flat.{zeroElem, freshOf, insideTests, gatherTests, respondTests, answerTests, collectTests, skipTests}
 use Rattle.flat.specs.Moved.{sentClient, receivedClient, gatheredClient, answeredClient}
 use Rattle.flat.specs.Sound.{sound}
 use Rattle.flat.specs.Image.{entryBytes, imageBytes}
@@ -21,22 +21,18 @@ use Rattle.flat.specs.declared.client.ClientMoved.{ClientMoved}
 use Rattle.flat.specs.declared.combiner.Gathered.{Gathered}
 use Rattle.flat.specs.declared.single.Answer.{Answer}
 
--- a promise that names its answer
-settled : {A : Type 0} {r q x : A} → r ≡ x → q ≡ x → r ≡ q
-settled a b = a ∙ sym b
-
 pub fresh-settled : (clients : ℕ) {r q : Made} → r ≡ freshOf clients → q ≡ freshOf clients → r ≡ q
 fresh-settled clients = settled
 
-pub sound-settled : (s : State) {r q : Bool} → r ≡ sound s → q ≡ sound s → r ≡ q
-sound-settled s = settled
+pub is-sound-settled : (s : State) {r q : Bool} → r ≡ sound s → q ≡ sound s → r ≡ q
+is-sound-settled s = settled
 
 pub image-settled : (s : State) {l : List ℕ} {r q : ℕ} {l′ m : List ℕ} → Laid l 0 (imageBytes s) r l′ → Laid l 0 (imageBytes s) q m → (r ≡ q) × (l′ ≡ m)
 image-settled s = laid-settled
 
-pub answer-settled : (j rid resp : ℕ) {l : List ℕ} {at r q : ℕ} {l′ m : List ℕ} → Laid l at (entryBytes (entry.Answer j rid resp)) r l′
+pub put-entry-settled : (j rid resp : ℕ) {l : List ℕ} {at r q : ℕ} {l′ m : List ℕ} → Laid l at (entryBytes (entry.Answer j rid resp)) r l′
     → Laid l at (entryBytes (entry.Answer j rid resp)) q m → (r ≡ q) × (l′ ≡ m)
-answer-settled j rid resp = laid-settled
+put-entry-settled j rid resp = laid-settled
 
 -- ---------- the clients' transitions
 
@@ -55,13 +51,13 @@ module _ (responding : Bool) (at count : ℕ) {r q : ℕ} where
   pub may-gather-settled : r ≡ first (gatherTests responding at count) → q ≡ first (gatherTests responding at count) → r ≡ q
   may-gather-settled = settled
 
-  pub may-respond-settled : r ≡ first (fullTests responding at count) → q ≡ first (fullTests responding at count) → r ≡ q
+  pub may-respond-settled : r ≡ first (respondTests responding at count) → q ≡ first (respondTests responding at count) → r ≡ q
   may-respond-settled = settled
 
-  pub may-answer-settled : r ≡ first (serveTests responding at count) → q ≡ first (serveTests responding at count) → r ≡ q
+  pub may-answer-settled : r ≡ first (answerTests responding at count) → q ≡ first (answerTests responding at count) → r ≡ q
   may-answer-settled = settled
 
-  pub may-collect-settled : r ≡ first (doneTests responding at count) → q ≡ first (doneTests responding at count) → r ≡ q
+  pub may-collect-settled : r ≡ first (collectTests responding at count) → q ≡ first (collectTests responding at count) → r ≡ q
   may-collect-settled = settled
 
 pub no-elem-settled : {r q : Elem} → r ≡ zeroElem → q ≡ zeroElem → r ≡ q
@@ -73,10 +69,10 @@ combiner-recv-settled c = settled
 pub combiner-send-settled : (c : Client) (e : Elem) (rid resp : ℕ) {r q : ClientMoved} → r ≡ answeredClient c e rid resp → q ≡ answeredClient c e rid resp → r ≡ q
 combiner-send-settled c e rid resp = settled
 
-pub may-skip-settled : (e : Elem) {r q : ℕ} → r ≡ first (freeTests e) → q ≡ first (freeTests e) → r ≡ q
+pub may-skip-settled : (e : Elem) {r q : ℕ} → r ≡ first (skipTests e) → q ≡ first (skipTests e) → r ≡ q
 may-skip-settled e = settled
 
 -- ---------- the single step: its answer, and the log
 
 pub single-settled : (s : State) (x : Step) (l : List ℕ) {r q : Answer} {l′ m : List ℕ} → Singled s x l r l′ → Singled s x l q m → (r ≡ q) × (l′ ≡ m)
-single-settled s x l a b = (a .answer ∙ sym (b .answer), a .log ∙ sym (b .log))
+single-settled s x l a b = (settled (a .answer) (b .answer), settled (a .log) (b .log))

@@ -1,8 +1,9 @@
--- The test of a state says what soundness means: the source's invariants, the limits, unused entries zero. Both say the stages. Assumes nothing.
+-- The test of a state says what soundness means: the source's invariants, the limits, unused entries zero. Both say the stages, and a fresh machine has
+-- them. Assumes nothing.
 use Prim.Native.Nat.{ℕ, _≤_, _<_}
-use mathlib.Core.Path.{_≡_, ap}
+use mathlib.Core.Path.{_≡_, refl, ap}
 use mathlib.Core.Bool.{Bool, true, false}
-use mathlib.Core.Logic.{_⊎_, inl, inr, _↔_}
+use mathlib.Core.Logic.{_⊎_, inl, inr}
 use mathlib.Core.Option.{some}
 use native.Mathlib.Omega.{arith}
 use lib.Dec.{ltb}
@@ -12,15 +13,16 @@ use Rattle.rows.proofs.Cases.{on}
 use Rattle.schedule.specs.Limits as limit
 use Rattle.flat.specs.Source as source
 use Rattle.flat.specs.Invariants.{Invariants, holds-rid, request-stored, response-stored, combiner-has}
-use Rattle.flat.specs.Flat.{client}
+use Rattle.flat.specs.Flat.{zeroClient, freshState, client}
 use Rattle.flat.specs.Sound.{sound}
 use Rattle.flat.specs.Refined.{clientOf, combinerOf, abs, Sound}
 use Rattle.flat.specs.declared.state.Client.{Client}
 use Rattle.flat.specs.declared.state.State.{State}
-use Rattle.flat.proofs.Stages.{Has, Mode, Stages, collecting, gathered-few, gathered-room, waits-inside}
+use Rattle.flat.proofs.Stages.{Has, rests, Mode, collects, Stages, collecting, gathered-few, gathered-room, waits-inside}
 use Rattle.flat.proofs.Tests.{sound-stages, stages-sound}
 use Rattle.flat.proofs.Flags.{Flags, has-free, has-one, free-none, stand-flags, stand-zeros, flags-stand}
 use Rattle.flat.proofs.Values.{given-some, given-none, of-idle, of-waits}
+use Rattle.flat.proofs.Unused.{getD-fresh, fresh-clients, fresh-elems}
 use Rattle.flat.proofs.Elems.{holds-has, has-holds, mode-sized, sized-mode}
 
 -- ---------- from the stages to the source's invariants
@@ -67,8 +69,8 @@ module _ (s : State) (i : Stages s) where
             (a .1, a .2, rw (k .3));
       }
 
-  pub stages-told : Sound s
-  stages-told =
+  pub stages-mean : Sound s
+  stages-mean =
       record {
         inv = stages-inv;
         whole-clients = i .rows .clients .whole;
@@ -137,8 +139,8 @@ module _ (s : State) (h : Sound s) where
             (b .0, b .1, b .2, given-none (client s j .asked) _ (k .2));
       }
 
-  pub told-stages : Stages s
-  told-stages =
+  pub means-stages : Stages s
+  means-stages =
       record {
         rows = record {
           few = h .few;
@@ -152,14 +154,22 @@ module _ (s : State) (h : Sound s) where
 
 -- ---------- the test is the record
 
-pub sound-told : (s : State) → length (s .clients) ≡ limit.clients → length (s .elems) ≡ limit.clients → sound s ≡ true → Sound s
-sound-told s a b t = stages-told s (sound-stages s a b t)
+pub sound-means : (s : State) → length (s .clients) ≡ limit.clients → length (s .elems) ≡ limit.clients → sound s ≡ true → Sound s
+sound-means s a b t = stages-mean s (sound-stages s a b t)
 
-pub told-sound : (s : State) → Sound s → sound s ≡ true
-told-sound s h = stages-sound s (told-stages s h)
+pub means-sound : (s : State) → Sound s → sound s ≡ true
+means-sound s h = stages-sound s (means-stages s h)
 
-pub stages-iff : (s : State) → Stages s ↔ Sound s
-stages-iff s = (stages-told s, told-stages s)
+-- ---------- the fresh machine
 
-pub sound-iff : (s : State) → length (s .clients) ≡ limit.clients → length (s .elems) ≡ limit.clients → (sound s ≡ true) ↔ Sound s
-sound-iff s a b = (sound-told s a b, told-sound s)
+module _ (n : ℕ) (b : n ≤ limit.clients) where
+  pub fresh-stages : Stages (freshState n)
+  fresh-stages =
+      record {
+        rows = record { few = b; clients = fresh-clients n; elems = fresh-elems };
+        mode = collects refl refl (omega arith);
+        stand = λ j. rests (getD-fresh limit.clients j zeroClient) (λ x y. absurd (omega arith));
+      }
+
+  pub fresh-sound : sound (freshState n) ≡ true
+  fresh-sound = stages-sound (freshState n) fresh-stages

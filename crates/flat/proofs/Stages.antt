@@ -1,5 +1,5 @@
 -- A sound state in a reader's words: the combiner collects or responds, and each client is in one of four stages, which is an equation for its whole
--- record. The test of a state says this (proofs/Tests.antt), the source's invariants say it (proofs/Sounds.antt), and steps keep it (proofs/Keeps.antt).
+-- record. The test of a state says this (proofs/Tests.antt), the source's invariants say it (proofs/Sounds.antt), and steps keep it (proofs/Kept.antt).
 -- Assumes nothing.
 use Prim.Native.Nat.{ℕ, _≤_, _<_}
 use mathlib.Core.Path.{_≡_, refl}

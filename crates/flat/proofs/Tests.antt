@@ -106,7 +106,7 @@ module _ (j count len idx : ℕ) (c : Client) (e : Elem) where
       (λ k. asks (c .rid) (c .req) (asking-told c w k (rw (b, k) at t)) (free-told j len idx e b))
       (λ k. isTold (c .rid) (c .resp) (answered-told c w k (rw (b, k) at t)) (free-told j len idx e b)))
 
-  client-told : clientSound j count (heldFrom j len idx e) c e ≡ true → (count ≤ j → c ≡ zeroClient) × Stand c (FreeAt j len idx e) (HasAt j len idx e)
+  pub client-told : clientSound j count (heldFrom j len idx e) c e ≡ true → (count ≤ j → c ≡ zeroClient) × Stand c (FreeAt j len idx e) (HasAt j len idx e)
   client-told t = on (c .waiting)
       (λ w. let a = both-true (not (leb count j)) _ (rw w at t) in
       (λ h. clash (cc (rw (le-leb count j h) at (a .0))), waiting-told w (a .1)))

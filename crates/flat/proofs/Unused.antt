@@ -13,7 +13,8 @@ use Rattle.rows.proofs.Row.{row-case}
 use Rattle.machine.specs.Machine.{Accepted}
 use Rattle.schedule.specs.Limits as limit
 use Rattle.schedule.specs.declared.steps.FlatStep.{FlatStep}
-use Rattle.schedule.specs.declared.steps.FlatStep.the-variants.{ClientSend, ClientRecv, CombinerRecv, CombinerSkip, CombinerGoToResponding, CombinerSend, CombinerSendSkip, CombinerGoToCollecting}
+use Rattle.schedule.specs.declared.steps.FlatStep.the-variants.{ClientSend, ClientRecv, CombinerRecv, CombinerSkip, CombinerGoToResponding}
+use Rattle.schedule.specs.declared.steps.FlatStep.the-variants.{CombinerSend, CombinerSendSkip, CombinerGoToCollecting}
 use Rattle.flat.specs.Flat.{flat, zeroClient, zeroElem, next}
 use Rattle.flat.specs.declared.state.Client.{Client}
 use Rattle.flat.specs.declared.state.Elem.{Elem}

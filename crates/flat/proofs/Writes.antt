@@ -10,6 +10,7 @@ use Rattle.rows.specs.Bytes.{big}
 use Rattle.rows.specs.Mask.{mask}
 use Rattle.rows.specs.Stores.{Laid}
 use Rattle.rows.specs.Walk.{pieces}
+use Rattle.rows.proofs.Laying.{pieces-long}
 use Rattle.rows.proofs.Stores.{none-laid, laid-whole, laid-then, laid-length, stores-then}
 use Rattle.schedule.specs.Limits as limit
 use Rattle.flat.specs.Flat.{zeroClient, zeroElem}
@@ -18,7 +19,6 @@ use Rattle.flat.specs.declared.state.Client.{Client}
 use Rattle.flat.specs.declared.state.Elem.{Elem}
 use Rattle.flat.specs.declared.state.State.{State}
 use Rattle.flat.specs.declared.entry.Entry.the-variants.{Answer}
-use Rattle.rows.proofs.Laying.{pieces-long}
 
 -- ---------- an entry
 
@@ -27,14 +27,14 @@ module _ (l : List ℕ) (at j rid resp : ℕ) where
   bytes = entryBytes (Answer j rid resp)
 
   module _ (o r : ℕ) (k l′ : List ℕ) (id : Laid (set (set l at 9) (at + 1) j) (at + 1 + 1) (big 4 rid) o k) (load : Laid k o (big 4 resp) r l′) where
-    pub answer-laid : length bytes ≤ length l → at ≤ length l - length bytes → Laid l at bytes r l′
-    answer-laid h p =
+    pub entry-laid : length bytes ≤ length l → at ≤ length l - length bytes → Laid l at bytes r l′
+    entry-laid h p =
         let fits : at + 1 + 1 + length (big 4 rid ++ big 4 resp) ≤ length (set (set l at 9) (at + 1) j) = simp length-set (omega arith) in
         stores-then l at (9 ∷ j ∷ []) (big 4 rid ++ big 4 resp) (at + 1 + 1) r l′ (omega arith) (omega arith)
         (laid-then (set (set l at 9) (at + 1) j) (at + 1 + 1) (big 4 rid) (big 4 resp) o k r l′ fits id load)
 
-    pub answer-length : length l′ ≡ length l
-    answer-length = laid-length k o (big 4 resp) r l′ load ∙ laid-length _ (at + 1 + 1) (big 4 rid) o k id ∙ simp length-set
+    pub entry-length : length l′ ≡ length l
+    entry-length = laid-length k o (big 4 resp) r l′ load ∙ laid-length _ (at + 1 + 1) (big 4 rid) o k id ∙ simp length-set
 
 -- ---------- a client, an element, the combiner
 

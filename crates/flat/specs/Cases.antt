@@ -2,16 +2,13 @@
 -- one that is accepted, and for each of its tests one that this test refuses. Proved by one claim, in proofs/Tabled.antt. Assumes nothing.
 use Prim.Native.Nat.{ℕ}
 use mathlib.Core.Path.{_≡_}
-use mathlib.Core.Bool.{Bool, true, false, not, _&&_}
+use mathlib.Core.Bool.{Bool, true, false, _&&_}
 use mathlib.Core.List.{List, [], _∷_, _++_}
-use lib.Dec.{eqb}
 use lib.ListN.{length, take, replicate}
-use Rattle.rows.specs.Bytes.{alike}
-use Rattle.rows.specs.Walk.{every, pieces}
-use Rattle.machine.specs.Replay.{Replayed, replay}
+use Rattle.machine.specs.Table.{Case, runs, does, refuses, Start, starts, allRight, allWrong, allStarted, noneStarted}
 use Rattle.schedule.specs.Limits as limit
-use Rattle.schedule.specs.declared.steps.FlatStep.{FlatStep}
-use Rattle.schedule.specs.declared.steps.FlatStep.the-variants.{ClientSend, ClientRecv, CombinerRecv, CombinerSkip, CombinerGoToResponding, CombinerSend, CombinerSendSkip, CombinerGoToCollecting}
+use Rattle.schedule.specs.declared.steps.FlatStep.the-variants.{ClientSend, ClientRecv, CombinerRecv, CombinerSkip, CombinerGoToResponding}
+use Rattle.schedule.specs.declared.steps.FlatStep.the-variants.{CombinerSend, CombinerSendSkip, CombinerGoToCollecting}
 use Rattle.flat.specs.Flat.{flat, zeroClient, zeroElem, freshOf}
 use Rattle.flat.specs.Sound.{sound}
 use Rattle.flat.specs.Image.{imageBytes, entryBytes}
@@ -19,27 +16,10 @@ use Rattle.flat.specs.declared.state.Client.{Client}
 use Rattle.flat.specs.declared.state.Elem.{Elem}
 use Rattle.flat.specs.declared.state.State.{State}
 
--- steps from a state: the code, the place, the image of the state that they lead to (to the step that is refused), and the bytes that they log
-pub record Case : Type 0 where
-  pub given : State
-  pub steps : List FlatStep
-  pub code : ℕ
-  pub place : ℕ
-  pub image : List ℕ
-  pub log : List ℕ
+-- ---------- the states
 
--- one step that is accepted, and one that is refused
-abbrev does : State → FlatStep → List ℕ → List ℕ → Case
-does s x image log = record { given = s; steps = x ∷ []; code = 0; place = 1; image = image; log = log }
-
-abbrev refuses : State → FlatStep → ℕ → List ℕ → Case
-refuses s x code image = record { given = s; steps = x ∷ []; code = code; place = 0; image = image; log = [] }
-
--- steps one after the other
-abbrev runs : State → List FlatStep → ℕ → ℕ → List ℕ → List ℕ → Case
-runs s xs code place image log = record { given = s; steps = xs; code = code; place = place; image = image; log = log }
-
--- ---------- the states: a client idle, with its request stored, gathered, with its response stored
+-- a client with its request stored, gathered, with its response stored, idle: written out from the scope, and not taken from the stages of
+-- proofs/Stages.antt, so that the table stays apart from what is proved
 
 abbrev asks : ℕ → ℕ → Client
 asks rid req = record { rid = rid; req = req; resp = 0; waiting = true; asked = true; told = false; slot = true }
@@ -109,7 +89,7 @@ widerBytes = 5 ∷ 6 ∷ 7 ∷ 8 ∷ []
 
 -- ---------- the table
 
-abbrev clientSends : List Case
+abbrev clientSends : List (Case flat)
 clientSends =
     -- client_send stores the request and sets the slot; it needs a client that is there, and that idle
     does (collecting (idle ∷ []) []) (ClientSend 0 wide wider)
@@ -127,7 +107,7 @@ clientSends =
     ∷ refuses (collecting (answered 7 99 ∷ []) []) (ClientSend 0 8 43) 12 (answeredBytes 7 99 ++ zeros 5)
     ∷ []
 
-abbrev clientRecvs : List Case
+abbrev clientRecvs : List (Case flat)
 clientRecvs =
     -- client_recv empties the response and logs client, rid, resp; it needs a client that is there, that waits, and its slot clear (14: P5)
     does (collecting (answered wide wider ∷ []) []) (ClientRecv 0) (zeros 28) (9 ∷ 0 ∷ wideBytes ++ widerBytes)
@@ -141,7 +121,7 @@ clientRecvs =
     ∷ refuses (collecting (gathered 7 ∷ []) (holds 7 ∷ [])) (ClientRecv 0) 14 (gatheredBytes 7 ++ (0 ∷ 1 ∷ 0 ∷ 0 ∷ 1 ∷ 1 ∷ four 7))
     ∷ []
 
-abbrev combinerGathers : List Case
+abbrev combinerGathers : List (Case flat)
 combinerGathers =
     -- combiner_recv takes the request, leaves the slot set and keeps the id; it needs to collect, a client left, and its slot set
     does (collecting (asks wide wider ∷ []) []) CombinerRecv (1 ∷ wideBytes ++ (zeros 18 ++ (0 ∷ 1 ∷ 0 ∷ 0 ∷ 1 ∷ 1 ∷ wideBytes))) []
@@ -164,7 +144,7 @@ combinerGathers =
     ∷ refuses (collecting (idle ∷ idle ∷ []) (nothing ∷ [])) CombinerGoToResponding 13 (zeros 50 ++ (1 ∷ zeros 5))
     ∷ []
 
-abbrev combinerResponds : List Case
+abbrev combinerResponds : List (Case flat)
 combinerResponds =
     -- combiner_send stores the response, clears the slot and goes on to the next client; it needs to respond, a client left, and that very id
     does (responding (gathered wide ∷ []) (holds wide ∷ []) 0) (CombinerSend wide wider)
@@ -188,7 +168,7 @@ combinerResponds =
     ∷ refuses (responding (idle ∷ idle ∷ []) (nothing ∷ nothing ∷ []) 1) CombinerGoToCollecting 13 (zeros 48 ++ (1 ∷ 1 ∷ 2 ∷ zeros 10))
     ∷ []
 
-abbrev wholeRuns : List Case
+abbrev wholeRuns : List (Case flat)
 wholeRuns =
     -- P1: of 0 clients both go_to steps are accepted, and combiner_skip is 13
     runs (fresh 0) (CombinerGoToResponding ∷ CombinerGoToCollecting ∷ CombinerSkip ∷ []) 13 2 (zeros 5) []
@@ -217,57 +197,40 @@ wholeRuns =
     ∷ []
 
 -- a fresh machine of so many clients: its code, and the image of its state
-pub record Start : Type 0 where
-  pub clients : ℕ
-  pub code : ℕ
-  pub image : List ℕ
-
-abbrev starts : List Start
-starts =
-    record { clients = 0; code = 0; image = zeros 5 }
-    ∷ record { clients = 1; code = 0; image = zeros 28 }
-    ∷ record { clients = 2; code = 0; image = zeros 51 }
-    ∷ record { clients = 16; code = 0; image = zeros 373 }
-    ∷ record { clients = 17; code = 5; image = zeros 5 }
-    ∷ record { clients = 255; code = 5; image = zeros 5 }
+abbrev freshMachines : List (Start ℕ)
+freshMachines =
+    starts 0 0 (zeros 5)
+    ∷ starts 1 0 (zeros 28)
+    ∷ starts 2 0 (zeros 51)
+    ∷ starts 16 0 (zeros 373)
+    ∷ starts 17 5 (zeros 5)
+    ∷ starts 255 5 (zeros 5)
     ∷ []
 
--- ---------- the machine's answer is the table's
-
--- and the state is sound: that unused entries are zero no image shows
-abbrev agrees : Case → Replayed flat → Bool
-agrees c r =
-    eqb (r .code) (c .code)
-    && (eqb (r .place) (c .place)
-    && (alike (imageBytes (r .state)) (c .image) && (alike (pieces entryBytes (r .log)) (c .log) && sound (r .state))))
-
-abbrev pub right : Case → Bool
-right c = agrees c (replay flat (c .given) 0 (c .steps))
-
-abbrev pub started : Start → Bool
-started c =
-    let m = freshOf (c .clients) in
-    eqb (m .code) (c .code) && (alike (imageBytes (m .state)) (c .image) && sound (m .state))
-
-abbrev allRight : List Case → Bool
-allRight cs = every (λ i c. right c) 0 cs
-
--- rows with one thing wrong in each, the last with a request kept where none is asked, which no image shows: the tests say no to all of them
-abbrev wrongs : List Case
+-- rows with one thing wrong in each: the code, the place, the image, that the state is sound (a request is kept where none is asked, which no image shows),
+-- the log
+abbrev wrongs : List (Case flat)
 wrongs =
     runs (collecting (answered 7 9 ∷ []) []) (ClientRecv 0 ∷ []) 12 1 (zeros 28) (9 ∷ 0 ∷ four 7 ++ four 9)
     ∷ runs (collecting (answered 7 9 ∷ []) []) (ClientRecv 0 ∷ []) 0 2 (zeros 28) (9 ∷ 0 ∷ four 7 ++ four 9)
     ∷ runs (collecting (answered 7 9 ∷ []) []) (ClientRecv 0 ∷ []) 0 1 (zeros 27) (9 ∷ 0 ∷ four 7 ++ four 9)
-    ∷ runs (collecting (answered 7 9 ∷ []) []) (ClientRecv 0 ∷ []) 0 1 (zeros 28) []
     ∷ runs (collecting (record { rid = 0; req = 9; resp = 0; waiting = false; asked = false; told = false; slot = false } ∷ []) []) (CombinerSkip ∷ []) 0 1
     (zeros 27 ++ (1 ∷ zeros 5)) []
+    ∷ runs (collecting (answered 7 9 ∷ []) []) (ClientRecv 0 ∷ []) 0 1 (zeros 28) []
     ∷ []
 
-abbrev wrongStarts : List Start
-wrongStarts = record { clients = 1; code = 5; image = zeros 28 } ∷ record { clients = 1; code = 0; image = zeros 27 } ∷ []
+-- the code, the image
+abbrev wrongStarts : List (Start ℕ)
+wrongStarts = starts 1 5 (zeros 28) ∷ starts 1 0 (zeros 27) ∷ []
+
+-- ---------- every row is right, and every wrong one is not
+
+abbrev right : List (Case flat) → Bool
+right cs = allRight flat sound imageBytes entryBytes cs
 
 abbrev pub Tabled : Type 0
 Tabled =
-    (every (λ i c. started c) 0 starts
-    && (allRight clientSends && (allRight clientRecvs && (allRight combinerGathers && (allRight combinerResponds && (allRight wholeRuns
-    && (every (λ i c. not (right c)) 0 wrongs && every (λ i c. not (started c)) 0 wrongStarts))))))) ≡ true
+    (allStarted flat sound imageBytes entryBytes (λ n. freshOf n .code) (λ n. freshOf n .state) freshMachines
+    && (right clientSends && (right clientRecvs && (right combinerGathers && (right combinerResponds && (right wholeRuns
+    && (allWrong flat sound imageBytes entryBytes wrongs
+    && noneStarted flat sound imageBytes entryBytes (λ n. freshOf n .code) (λ n. freshOf n .state) wrongStarts))))))) ≡ true

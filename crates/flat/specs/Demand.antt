@@ -5,11 +5,12 @@ use mathlib.Core.Bool.{Bool, true, false}
 use mathlib.Core.List.{List, [], _∷_, _++_}
 use lib.Dec.{eqb}
 use lib.ListN.{length, getD}
-use Rattle.machine.specs.History.{Event, History, Run}
+use Rattle.machine.specs.History.{History, Run}
 use Rattle.schedule.specs.Limits as limit
 use Rattle.schedule.specs.declared.steps.FlatStep.{FlatStep}
-use Rattle.schedule.specs.declared.steps.FlatStep.the-variants.{ClientSend, ClientRecv, CombinerRecv, CombinerSkip, CombinerGoToResponding, CombinerSend, CombinerSendSkip, CombinerGoToCollecting}
-use Rattle.flat.specs.Flat.{flat, emptyFlat}
+use Rattle.schedule.specs.declared.steps.FlatStep.the-variants.{ClientSend, ClientRecv, CombinerRecv, CombinerSkip, CombinerGoToResponding}
+use Rattle.schedule.specs.declared.steps.FlatStep.the-variants.{CombinerSend, CombinerSendSkip, CombinerGoToCollecting}
+use Rattle.flat.specs.Flat.{flat, freshState}
 use Rattle.flat.specs.declared.state.State.{State}
 use Rattle.flat.specs.declared.entry.Entry.{Entry}
 use Rattle.flat.specs.declared.entry.Entry.the-variants.{Answer}
@@ -106,4 +107,4 @@ pub record Demand (h : Hist) : Type 0 where
 
 -- after every accepted prefix from a fresh machine of any number of clients in its limits
 abbrev pub Demanded : Type 0
-Demanded = (n : ℕ) → n ≤ limit.clients → (h : Hist) (s : State) → Run flat (emptyFlat n) h s → Demand h
+Demanded = (n : ℕ) → n ≤ limit.clients → (h : Hist) (s : State) → Run flat (freshState n) h s → Demand h

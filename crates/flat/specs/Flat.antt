@@ -7,10 +7,11 @@ use lib.Dec.{eqb, ltb}
 use lib.ListN.{getD, set, replicate}
 use Rattle.machine.specs.Check.{Check, need, rises}
 use Rattle.machine.specs.Machine.{Machine}
-use Rattle.schedule.specs.Codes as code
+use Rattle.machine.specs.Codes as code
 use Rattle.schedule.specs.Limits as limit
 use Rattle.schedule.specs.declared.steps.FlatStep.{FlatStep}
-use Rattle.schedule.specs.declared.steps.FlatStep.the-variants.{ClientSend, ClientRecv, CombinerRecv, CombinerSkip, CombinerGoToResponding, CombinerSend, CombinerSendSkip, CombinerGoToCollecting}
+use Rattle.schedule.specs.declared.steps.FlatStep.the-variants.{ClientSend, ClientRecv, CombinerRecv, CombinerSkip, CombinerGoToResponding}
+use Rattle.schedule.specs.declared.steps.FlatStep.the-variants.{CombinerSend, CombinerSendSkip, CombinerGoToCollecting}
 use Rattle.flat.specs.declared.state.Client.{Client}
 use Rattle.flat.specs.declared.state.Elem.{Elem}
 use Rattle.flat.specs.declared.state.State.{State}
@@ -26,14 +27,14 @@ zeroClient = record { rid = 0; req = 0; resp = 0; waiting = false; asked = false
 abbrev pub zeroElem : Elem
 zeroElem = record { rid = 0; present = false }
 
-abbrev pub emptyFlat : ℕ → State
-emptyFlat count =
+abbrev pub freshState : ℕ → State
+freshState count =
     record { clients = replicate limit.clients zeroClient; elems = replicate limit.clients zeroElem; count = count; len = 0; idx = 0; responding = false }
 
 abbrev pub freshOf : ℕ → Made
 freshOf count =
-    cond (ltb limit.clients count) (record { state = emptyFlat 0; code = code.parameter })
-    (record { state = emptyFlat count; code = code.accepted })
+    cond (ltb limit.clients count) (record { state = freshState 0; code = code.parameter })
+    (record { state = freshState count; code = code.accepted })
 
 -- ---------- the tests: those on the combiner, then those on the client or the element that the step looks at
 
@@ -49,14 +50,14 @@ insideTests count j = need code.outside (ltb j count) ∷ []
 abbrev pub gatherTests : Bool → ℕ → ℕ → List Check
 gatherTests responding len count = need code.phase (not responding) ∷ need code.cursor (ltb len count) ∷ []
 
-abbrev pub fullTests : Bool → ℕ → ℕ → List Check
-fullTests responding len count = need code.phase (not responding) ∷ need code.cursor (eqb len count) ∷ []
+abbrev pub respondTests : Bool → ℕ → ℕ → List Check
+respondTests responding len count = need code.phase (not responding) ∷ need code.cursor (eqb len count) ∷ []
 
-abbrev pub serveTests : Bool → ℕ → ℕ → List Check
-serveTests responding idx count = need code.phase responding ∷ need code.cursor (ltb idx count) ∷ []
+abbrev pub answerTests : Bool → ℕ → ℕ → List Check
+answerTests responding idx count = need code.phase responding ∷ need code.cursor (ltb idx count) ∷ []
 
-abbrev pub doneTests : Bool → ℕ → ℕ → List Check
-doneTests responding idx count = need code.phase responding ∷ need code.cursor (eqb idx count) ∷ []
+abbrev pub collectTests : Bool → ℕ → ℕ → List Check
+collectTests responding idx count = need code.phase responding ∷ need code.cursor (eqb idx count) ∷ []
 
 abbrev pub sendTests : Client → List Check
 sendTests c = need code.phase (not (c .waiting)) ∷ []
@@ -71,32 +72,32 @@ slotTests c = need code.slot (c .slot) ∷ []
 abbrev pub elemTests : Elem → ℕ → List Check
 elemTests e rid = need code.element (e .present) ∷ need code.element (eqb rid (e .rid)) ∷ []
 
-abbrev pub freeTests : Elem → List Check
-freeTests e = need code.element (not (e .present)) ∷ []
+abbrev pub skipTests : Elem → List Check
+skipTests e = need code.element (not (e .present)) ∷ []
 
 abbrev pub headTests : State → FlatStep → List Check
 headTests s (ClientSend j rid req) = insideTests (s .count) j
 headTests s (ClientRecv j) = insideTests (s .count) j
 headTests s CombinerRecv = gatherTests (s .responding) (s .len) (s .count)
 headTests s CombinerSkip = gatherTests (s .responding) (s .len) (s .count)
-headTests s CombinerGoToResponding = fullTests (s .responding) (s .len) (s .count)
-headTests s (CombinerSend rid resp) = serveTests (s .responding) (s .idx) (s .count)
-headTests s CombinerSendSkip = serveTests (s .responding) (s .idx) (s .count)
-headTests s CombinerGoToCollecting = doneTests (s .responding) (s .idx) (s .count)
+headTests s CombinerGoToResponding = respondTests (s .responding) (s .len) (s .count)
+headTests s (CombinerSend rid resp) = answerTests (s .responding) (s .idx) (s .count)
+headTests s CombinerSendSkip = answerTests (s .responding) (s .idx) (s .count)
+headTests s CombinerGoToCollecting = collectTests (s .responding) (s .idx) (s .count)
 
 -- combiner_skip is allowed with the slot set
-abbrev pub placeTests : State → FlatStep → List Check
-placeTests s (ClientSend j rid req) = sendTests (client s j)
-placeTests s (ClientRecv j) = recvTests (client s j)
-placeTests s CombinerRecv = slotTests (client s (s .len))
-placeTests s CombinerSkip = []
-placeTests s CombinerGoToResponding = []
-placeTests s (CombinerSend rid resp) = elemTests (elem s (s .idx)) rid
-placeTests s CombinerSendSkip = freeTests (elem s (s .idx))
-placeTests s CombinerGoToCollecting = []
+abbrev pub recordTests : State → FlatStep → List Check
+recordTests s (ClientSend j rid req) = sendTests (client s j)
+recordTests s (ClientRecv j) = recvTests (client s j)
+recordTests s CombinerRecv = slotTests (client s (s .len))
+recordTests s CombinerSkip = []
+recordTests s CombinerGoToResponding = []
+recordTests s (CombinerSend rid resp) = elemTests (elem s (s .idx)) rid
+recordTests s CombinerSendSkip = skipTests (elem s (s .idx))
+recordTests s CombinerGoToCollecting = []
 
 abbrev pub tests : State → FlatStep → List Check
-tests s x = headTests s x ++ placeTests s x
+tests s x = headTests s x ++ recordTests s x
 
 -- ---------- the state after
 
@@ -119,16 +120,24 @@ answering c resp = record { rid = c .rid; req = c .req; resp = resp; waiting = c
 abbrev pub with : State → List Client → List Elem → ℕ → ℕ → Bool → State
 with s cs es l i m = record { clients = cs; elems = es; count = s .count; len = l; idx = i; responding = m }
 
+-- another client at j; one element more; the cursor at the next element
+abbrev pub withClient : State → ℕ → Client → State
+withClient s j c = with s (set (s .clients) j c) (s .elems) (s .len) (s .idx) (s .responding)
+
+abbrev pub withElem : State → Elem → State
+withElem s e = with s (s .clients) (set (s .elems) (s .len) e) (s .len + 1) (s .idx) (s .responding)
+
+abbrev pub withNext : State → State
+withNext s = with s (s .clients) (s .elems) (s .len) (s .idx + 1) (s .responding)
+
 abbrev pub next : State → FlatStep → State
-next s (ClientSend j rid req) = with s (set (s .clients) j (sending (client s j) rid req)) (s .elems) (s .len) (s .idx) (s .responding)
-next s (ClientRecv j) = with s (set (s .clients) j (receiving (client s j))) (s .elems) (s .len) (s .idx) (s .responding)
-next s CombinerRecv =
-    let c = client s (s .len) in
-    with s (set (s .clients) (s .len) (gathering c)) (set (s .elems) (s .len) (keeping c)) (s .len + 1) (s .idx) (s .responding)
-next s CombinerSkip = with s (s .clients) (set (s .elems) (s .len) zeroElem) (s .len + 1) (s .idx) (s .responding)
+next s (ClientSend j rid req) = withClient s j (sending (client s j) rid req)
+next s (ClientRecv j) = withClient s j (receiving (client s j))
+next s CombinerRecv = let c = client s (s .len) in withElem (withClient s (s .len) (gathering c)) (keeping c)
+next s CombinerSkip = withElem s zeroElem
 next s CombinerGoToResponding = with s (s .clients) (s .elems) (s .len) 0 true
-next s (CombinerSend rid resp) = with s (set (s .clients) (s .idx) (answering (client s (s .idx)) resp)) (s .elems) (s .len) (s .idx + 1) (s .responding)
-next s CombinerSendSkip = with s (s .clients) (s .elems) (s .len) (s .idx + 1) (s .responding)
+next s (CombinerSend rid resp) = withNext (withClient s (s .idx) (answering (client s (s .idx)) resp))
+next s CombinerSendSkip = withNext s
 next s CombinerGoToCollecting = with s (s .clients) (replicate limit.clients zeroElem) 0 0 false
 
 -- client_recv logs client, rid, resp

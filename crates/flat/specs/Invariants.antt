@@ -1,12 +1,11 @@
 -- The eight invariants of flat_combine.rs and the predicates that they are made of, under their own names. Assumes nothing.
 use Prim.Native.Nat.{ℕ, _≤_, _<_}
 use mathlib.Core.Path.{_≡_}
-use mathlib.Core.Bool.{Bool, true, false}
+use mathlib.Core.Bool.{true, false}
 use mathlib.Core.Logic.{_⊎_}
-use mathlib.Core.List.{List}
 use mathlib.Core.Option.{Option, none, some}
 use lib.ListN.{length, getD}
-use Rattle.flat.specs.Source.{Request, Response, Client, Idle, Waiting, Combiner, Collecting, Responding, FlatCombiner}
+use Rattle.flat.specs.Source.{Request, Response, Idle, Waiting, Combiner, Collecting, Responding, FlatCombiner}
 
 -- a key is in a map's domain
 abbrev pub Contains : {A : Type 0} → (ℕ → Option A) → ℕ → Type 0

@@ -1,19 +1,20 @@
 -- How a state stands for the source's, and what is proved of the two: proofs/Refines.antt and proofs/Sounds.antt. Assumes nothing.
-use Prim.Native.Nat.{ℕ, _≤_, _<_}
+use Prim.Native.Nat.{ℕ, _≤_}
 use mathlib.Core.Path.{_≡_}
 use mathlib.Core.Bool.{Bool, true, false, cond}
 use mathlib.Core.List.{List, [], _∷_, map}
 use mathlib.Core.Option.{Option, none, some}
 use lib.Dec.{ltb}
 use lib.ListN.{length, take}
-use Rattle.machine.specs.Machine.{Accepted}
+use Rattle.machine.specs.Sourced.{Sourced, Upholds}
 use Rattle.schedule.specs.Limits as limit
 use Rattle.schedule.specs.declared.steps.FlatStep.{FlatStep}
-use Rattle.schedule.specs.declared.steps.FlatStep.the-variants.{ClientSend, ClientRecv, CombinerRecv, CombinerSkip, CombinerGoToResponding, CombinerSend, CombinerSendSkip, CombinerGoToCollecting}
+use Rattle.schedule.specs.declared.steps.FlatStep.the-variants.{ClientSend, ClientRecv, CombinerRecv, CombinerSkip, CombinerGoToResponding}
+use Rattle.schedule.specs.declared.steps.FlatStep.the-variants.{CombinerSend, CombinerSendSkip, CombinerGoToCollecting}
 use Rattle.flat.specs.Source as source
 use Rattle.flat.specs.Source.{FlatCombiner, Transition, Moves, Safe}
 use Rattle.flat.specs.Invariants.{Invariants}
-use Rattle.flat.specs.Flat.{flat, zeroClient, zeroElem, emptyFlat, client, elem, next, logs}
+use Rattle.flat.specs.Flat.{flat, zeroClient, zeroElem, freshState, client, elem, next, logs}
 use Rattle.flat.specs.Sound.{sound}
 use Rattle.flat.specs.declared.state.Client.{Client}
 use Rattle.flat.specs.declared.state.Elem.{Elem}
@@ -79,11 +80,10 @@ pub record Sound (s : State) : Type 0 where
   pub unused-elems : (j : ℕ) → s .len ≤ j → elem s j ≡ zeroElem
   pub unused-ids : (j : ℕ) → elem s j .present ≡ false → elem s j .rid ≡ 0
 
--- ---------- enabled: the source's transition leads somewhere (no counter of this machine has a limit)
+-- ---------- enabled: the source's transition leads somewhere. No step counts, so that no counter's limit is ever reached
 
-pub record Enabled (s : State) (x : FlatStep) : Type 0 where
-  pub to : FlatCombiner
-  pub moves : Moves (abs s) (label x) to
+abbrev pub AtLimit : State → FlatStep → Type 0
+AtLimit s x = ⊥
 
 -- what the source hands out: client_recv the response that it withdraws
 abbrev pub HandsOut : FlatCombiner → Transition → List Entry → Type 0
@@ -96,22 +96,28 @@ HandsOut pre (source.combiner-send response) es = es ≡ []
 HandsOut pre source.combiner-send-skip es = es ≡ []
 HandsOut pre source.combiner-go-to-collecting es = es ≡ []
 
+-- the machine beside flat_combine.rs: `Enabled`, `Path` and `Exact` of machine/specs/Sourced.antt are said of it
+abbrev pub flatCombine : Sourced flat
+flatCombine =
+    record {
+      Source = FlatCombiner;
+      Transition = Transition;
+      Moves = Moves;
+      Safe = Safe;
+      HandsOut = HandsOut;
+      abs = abs;
+      label = label;
+      AtLimit = AtLimit;
+    }
+
 -- ---------- what is proved
 
 pub record Refines : Type 0 where
   -- a fresh machine of any number of clients in its limits is the source's, and sound
-  pub fresh-initialize : (n : ℕ) → n ≤ limit.clients → abs (emptyFlat n) ≡ source.initialize n
-  pub fresh-sound : (n : ℕ) → n ≤ limit.clients → sound (emptyFlat n) ≡ true
+  pub fresh-initialize : (n : ℕ) → n ≤ limit.clients → abs (freshState n) ≡ source.initialize n
+  pub fresh-sound : (n : ℕ) → n ≤ limit.clients → sound (freshState n) ≡ true
   -- the test is the record, where the rows are whole, as every row of the code is
-  pub sound-told : (s : State) → length (s .clients) ≡ limit.clients → length (s .elems) ≡ limit.clients → sound s ≡ true → Sound s
-  pub told-sound : (s : State) → Sound s → sound s ≡ true
-  -- of a sound state: a step is accepted exactly when it is enabled ..
-  pub accepted-enabled : (s : State) (x : FlatStep) → Sound s → Accepted flat s x → Enabled s x
-  pub enabled-accepted : (s : State) (x : FlatStep) → Sound s → Enabled s x → Accepted flat s x
-  -- .. and then does what the source says: the state after is the source's, and the log is what the source hands out
-  pub accepted-moves : (s : State) (x : FlatStep) → Sound s → Accepted flat s x → Moves (abs s) (label x) (abs (next s x))
-  pub accepted-post : (s : State) (x : FlatStep) (to : FlatCombiner) → Sound s → Accepted flat s x → Moves (abs s) (label x) to → to ≡ abs (next s x)
-  pub accepted-logs : (s : State) (x : FlatStep) → Sound s → Accepted flat s x → HandsOut (abs s) (label x) (logs s x)
-  pub accepted-safe : (s : State) (x : FlatStep) → Sound s → Accepted flat s x → Safe (abs s) (label x)
-  -- accepted steps keep soundness
-  pub accepted-sound : (s : State) (x : FlatStep) → Sound s → Accepted flat s x → Sound (next s x)
+  pub sound-means : (s : State) → length (s .clients) ≡ limit.clients → length (s .elems) ≡ limit.clients → sound s ≡ true → Sound s
+  pub means-sound : (s : State) → Sound s → sound s ≡ true
+  -- of a sound state: a step is accepted exactly when it is enabled, and then does what the source says and leaves a sound state
+  pub upholds : Upholds flatCombine Sound

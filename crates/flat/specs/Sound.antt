@@ -1,7 +1,7 @@
 -- When a state is sound: the test that the code makes, one walk over the clients, each with its element. specs/Refined.antt says what it means.
 -- Assumes nothing.
 use Prim.Native.Nat.{ℕ}
-use mathlib.Core.Bool.{Bool, true, false, cond, not, _&&_}
+use mathlib.Core.Bool.{Bool, cond, not, _&&_}
 use lib.Dec.{eqb, ltb, leb}
 use Rattle.rows.specs.Walk.{every}
 use Rattle.schedule.specs.Limits as limit

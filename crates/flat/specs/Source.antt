@@ -8,6 +8,7 @@ use mathlib.Core.List.{List, [], _∷_, _++_}
 use mathlib.Core.Option.{Option, none, some}
 use lib.Dec.{eqb, ltb}
 use lib.ListN.{length, getD}
+use Rattle.machine.specs.Map.{Map, at-key, without}
 
 pub record Request : Type 0 where
   pub rid : ℕ
@@ -27,20 +28,13 @@ pub data Combiner : Type 0 where
 
 pub record FlatCombiner : Type 0 where
   pub num-clients : ℕ
-  pub clients : ℕ → Option Client
-  pub slots : ℕ → Option Bool
+  pub clients : Map Client
+  pub slots : Map Bool
   pub combiner : Combiner
-  pub requests : ℕ → Option Request
-  pub responses : ℕ → Option Response
+  pub requests : Map Request
+  pub responses : Map Response
 
--- a map with the value at one key replaced, and with a key taken out
-abbrev pub at-key : {A : Type 0} → ℕ → A → (ℕ → Option A) → ℕ → Option A
-at-key j a m = λ i. cond (eqb i j) (some a) (m i)
-
-abbrev pub without : {A : Type 0} → ℕ → (ℕ → Option A) → ℕ → Option A
-without j m = λ i. cond (eqb i j) none (m i)
-
-abbrev pub with : FlatCombiner → (ℕ → Option Client) → (ℕ → Option Bool) → Combiner → (ℕ → Option Request) → (ℕ → Option Response) → FlatCombiner
+abbrev pub with : FlatCombiner → Map Client → Map Bool → Combiner → Map Request → Map Response → FlatCombiner
 with pre clients slots combiner requests responses =
     record { num-clients = pre .num-clients; clients = clients; slots = slots; combiner = combiner; requests = requests; responses = responses }
 

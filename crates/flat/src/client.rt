@@ -1,6 +1,6 @@
 // The clients' transitions on one client, shared by the single step and by the replay loop.
 use super::state::Client;
-use schedule::codes;
+use machine::codes;
 ghost use mathlib.Core.Path.{_≡_};
 ghost use Rattle.machine.specs.Check.{first};
 ghost use Rattle.flat.specs.Flat.{insideTests};

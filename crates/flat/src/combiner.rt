@@ -3,10 +3,10 @@
 use super::client::ClientMoved;
 use super::state::Client;
 use super::state::Elem;
-use schedule::codes;
+use machine::codes;
 ghost use mathlib.Core.Path.{_≡_};
 ghost use Rattle.machine.specs.Check.{first};
-ghost use Rattle.flat.specs.Flat.{zeroElem, gatherTests, fullTests, serveTests, doneTests, freeTests};
+ghost use Rattle.flat.specs.Flat.{zeroElem, gatherTests, respondTests, answerTests, collectTests, skipTests};
 ghost use Rattle.flat.specs.Moved.{gatheredClient, answeredClient};
 
 // combiner_recv and combiner_skip: collecting, and a client is left.
@@ -24,7 +24,7 @@ pub fn may_gather(responding: bool, len: u8, count: u8) -> u8
 
 // combiner_go_to_responding: collecting, and no client is left.
 pub fn may_respond(responding: bool, len: u8, count: u8) -> u8
-    ensures { λ r. ⌜ r ≡ first (fullTests responding len count) ⌝ }
+    ensures { λ r. ⌜ r ≡ first (respondTests responding len count) ⌝ }
 {
     if responding {
         return codes::PHASE;
@@ -37,7 +37,7 @@ pub fn may_respond(responding: bool, len: u8, count: u8) -> u8
 
 // combiner_send and combiner_send_skip: responding, and an element is left.
 pub fn may_answer(responding: bool, idx: u8, count: u8) -> u8
-    ensures { λ r. ⌜ r ≡ first (serveTests responding idx count) ⌝ }
+    ensures { λ r. ⌜ r ≡ first (answerTests responding idx count) ⌝ }
 {
     if responding {
         if idx < count {
@@ -50,7 +50,7 @@ pub fn may_answer(responding: bool, idx: u8, count: u8) -> u8
 
 // combiner_go_to_collecting: responding, and no element is left.
 pub fn may_collect(responding: bool, idx: u8, count: u8) -> u8
-    ensures { λ r. ⌜ r ≡ first (doneTests responding idx count) ⌝ }
+    ensures { λ r. ⌜ r ≡ first (collectTests responding idx count) ⌝ }
 {
     if responding {
         if idx == count {
@@ -148,7 +148,7 @@ pub fn combiner_send(c: Client, e: Elem, rid: u32, resp: u32) -> ClientMoved
 
 // combiner_send_skip: the element holds no id.
 pub fn may_skip(e: Elem) -> u8
-    ensures { λ r. ⌜ r ≡ first (freeTests e) ⌝ }
+    ensures { λ r. ⌜ r ≡ first (skipTests e) ⌝ }
 {
     if e.present {
         return codes::ELEMENT;

@@ -7,8 +7,8 @@ pub enum Entry {
     Answer { j: u8, rid: u32, resp: u32 },
 }
 
-// The bytes of an answer at a place of the log, all or nothing; the answer is the place after them.
-pub fn put_answer(log: &mut [u8], at: usize, j: u8, rid: u32, resp: u32) -> usize
+// The entry's bytes at a place of the log, all or nothing; the answer is the place after them.
+pub fn put_entry(log: &mut [u8], at: usize, j: u8, rid: u32, resp: u32) -> usize
     ensures { λ r. ⌜ Laid (now (log .entry)) at (entryBytes (Entry.Answer j rid resp)) r (now (log .exit)) ⌝ }
 {
     if log.len() < 10 {

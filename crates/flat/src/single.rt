@@ -5,19 +5,20 @@ use super::combiner;
 use super::entry;
 use super::sound;
 use super::state::State;
-use schedule::codes;
+use machine::codes;
 use schedule::limits;
 use schedule::steps::FlatStep;
 use schedule::steps::Step;
 ghost use mathlib.Core.Path.{_≡_};
 ghost use mathlib.Core.Bool.{true};
 ghost use Prim.Native.Nat.{_≤_, _<_};
-ghost use lib.ListN.{length, set};
+ghost use lib.ListN.{length};
 ghost use Rattle.schedule.specs.Limits as limit;
-ghost use Rattle.schedule.specs.declared.steps.FlatStep.the-variants.{ClientSend, ClientRecv, CombinerRecv, CombinerSkip, CombinerGoToResponding, CombinerSend, CombinerSendSkip, CombinerGoToCollecting};
-ghost use Rattle.flat.specs.Flat.{with};
+ghost use Rattle.schedule.specs.declared.steps.FlatStep.the-variants.{ClientSend, ClientRecv, CombinerRecv, CombinerSkip, CombinerGoToResponding};
+ghost use Rattle.schedule.specs.declared.steps.FlatStep.the-variants.{CombinerSend, CombinerSendSkip, CombinerGoToCollecting};
+ghost use Rattle.flat.specs.Flat.{withClient};
 ghost use Rattle.flat.specs.Sound as test;
-ghost use Rattle.flat.specs.Single.{Singled, Applied, quietly, told};
+ghost use Rattle.flat.specs.Single.{Singled, Applied, quietly, answer};
 
 // The state after the step, or the state as it was; the place is always 0; the entry's length.
 pub struct Answer {
@@ -53,7 +54,7 @@ fn tested(s: State, x: FlatStep, log: &mut [u8]) -> Answer
 
 // An answer that logs nothing.
 fn quiet(s: State, code: u8) -> Answer
-    ensures { λ r. ⌜ r ≡ told s 0 code ⌝ }
+    ensures { λ r. ⌜ r ≡ answer s 0 code ⌝ }
 {
     Answer {
         state: s,
@@ -110,7 +111,7 @@ fn client_recv(s: State, j: u8, log: &mut [u8]) -> Answer
     if m.code != 0 {
         return quiet(s, m.code);
     }
-    let n = entry::put_answer(log, 0, j, c.rid, c.resp);
+    let n = entry::put_entry(log, 0, j, c.rid, c.resp);
     with_client(s, i, m, n)
 }
 
@@ -234,7 +235,7 @@ fn go_to_collecting(s: State) -> Answer
 
 fn with_client(s: State, i: usize, m: ClientMoved, logged: usize) -> Answer
     requires { ⌜ i < limit.clients ⌝ }
-    ensures { λ r. ⌜ r ≡ told (with s (set (s .clients) i (m .client)) (s .elems) (s .len) (s .idx) (s .responding)) logged (m .code) ⌝ }
+    ensures { λ r. ⌜ r ≡ answer (withClient s i (m .client)) logged (m .code) ⌝ }
 {
     let c = m.client;
     let mut after = s;

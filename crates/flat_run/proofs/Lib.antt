@@ -1,6 +1,3 @@
-pub mod Arms
+pub mod Carried
 pub mod Turns
-pub mod ClientTurns
-pub mod CombinerTurns
-pub mod Whole
 pub mod Settled

@@ -2,30 +2,27 @@
 use flat::client;
 use flat::combiner;
 use flat::entry;
-use flat::image;
 use flat::state;
 use flat::state::State;
+use machine::codes;
 use schedule::answer;
 use schedule::answer::Answer;
-use schedule::codes;
 use schedule::count;
 use schedule::count::Counted;
 use schedule::front;
 use schedule::kinds;
+use schedule::lengths;
 use schedule::limits;
 use schedule::read;
 use schedule::steps::FlatStep;
 ghost use lib.ListN.{length};
-ghost use Rattle.schedule.specs.Answers.{Leaves, restFrom};
-ghost use Rattle.schedule.specs.Running.{Counts, Runnable, Ended};
-ghost use Rattle.schedule.specs.Spelling as spelled;
+ghost use Rattle.schedule.specs.Answers.{Leaves};
+ghost use Rattle.schedule.specs.Running.{Counts, Runnable, Ended, restRun};
 ghost use Rattle.schedule.specs.Widths as kind;
-ghost use Rattle.flat.specs.Flat.{flat};
-ghost use Rattle.flat.specs.Image.{entryBytes, imageBytes};
-ghost use Rattle.flat_run.specs.Run.{Good, leftBy, restOfFile};
+ghost use Rattle.flat.specs.Refined.{Sound};
+ghost use Rattle.flat_run.specs.Run.{runner, leftBy, restOfFile};
 
-// What a run leaves: the state after the accepted steps, the index of the step that stopped it or the number of steps, and how far the log is
-// written.
+// What a run leaves: the state after the accepted steps, the step that stopped it or the number of steps, and how far the log is written.
 pub struct Ran {
     pub state: State,
     pub place: usize,
@@ -35,8 +32,8 @@ pub struct Ran {
 
 // The next n steps of a file on a state, their entries into the log from `used` on.
 fn run(file: &[u8], from: usize, n: usize, start: State, log: &mut [u8], used: usize) -> Ran
-    requires { ⌜ Runnable flat spelled.flat Good (now file) from n start used (length (now log)) ⌝ }
-    ensures { λ r. ⌜ Ended flat spelled.flat entryBytes (now (file .entry)) from n start (now (log .entry)) used (leftBy r (now (log .exit))) ⌝ }
+    requires { ⌜ Runnable runner (now file) from n start used (length (now log)) ⌝ }
+    ensures { λ r. ⌜ Ended runner (now (file .entry)) from n start (now (log .entry)) used (leftBy r (now (log .exit))) ⌝ }
 {
     let mut s = start;
     let mut at = from;
@@ -76,7 +73,7 @@ fn run(file: &[u8], from: usize, n: usize, start: State, log: &mut [u8], used: u
                 }
                 let d = m.client;
                 s.clients[i] = d;
-                at += 11;
+                at += lengths::TAG_WHO_WHAT_WHAT;
                 k += 1;
                 continue;
             }
@@ -101,10 +98,10 @@ fn run(file: &[u8], from: usize, n: usize, start: State, log: &mut [u8], used: u
                         code: m.code,
                     };
                 }
-                w = entry::put_answer(log, w, j, c.rid, c.resp);
+                w = entry::put_entry(log, w, j, c.rid, c.resp);
                 let d = m.client;
                 s.clients[i] = d;
-                at += 3;
+                at += lengths::TAG_WHO;
                 k += 1;
                 continue;
             }
@@ -135,7 +132,7 @@ fn run(file: &[u8], from: usize, n: usize, start: State, log: &mut [u8], used: u
                 s.clients[i] = d;
                 s.elems[i] = e;
                 s.len = len + 1;
-                at += 2;
+                at += lengths::TAG;
                 k += 1;
                 continue;
             }
@@ -154,7 +151,7 @@ fn run(file: &[u8], from: usize, n: usize, start: State, log: &mut [u8], used: u
                 let e = combiner::no_elem();
                 s.elems[i] = e;
                 s.len = len + 1;
-                at += 2;
+                at += lengths::TAG;
                 k += 1;
                 continue;
             }
@@ -170,7 +167,7 @@ fn run(file: &[u8], from: usize, n: usize, start: State, log: &mut [u8], used: u
                 }
                 s.idx = 0;
                 s.responding = true;
-                at += 2;
+                at += lengths::TAG;
                 k += 1;
                 continue;
             }
@@ -200,7 +197,7 @@ fn run(file: &[u8], from: usize, n: usize, start: State, log: &mut [u8], used: u
                 let d = m.client;
                 s.clients[i] = d;
                 s.idx = idx + 1;
-                at += 10;
+                at += lengths::TAG_WHAT_WHAT;
                 k += 1;
                 continue;
             }
@@ -227,7 +224,7 @@ fn run(file: &[u8], from: usize, n: usize, start: State, log: &mut [u8], used: u
                     };
                 }
                 s.idx = idx + 1;
-                at += 2;
+                at += lengths::TAG;
                 k += 1;
                 continue;
             }
@@ -247,7 +244,7 @@ fn run(file: &[u8], from: usize, n: usize, start: State, log: &mut [u8], used: u
                 s.len = 0;
                 s.idx = 0;
                 s.responding = false;
-                at += 2;
+                at += lengths::TAG;
                 k += 1;
                 continue;
             }
@@ -281,8 +278,8 @@ fn replayed(
     image: &mut [u8],
 ) -> Answer
     requires { ⌜ Counts kind.flat (now file) from n ⌝ }
-    requires { ⌜ Good start ⌝ }
-    ensures { λ r. ⌜ Leaves (restFrom flat spelled.flat entryBytes imageBytes start (now (file .entry)) from (now (log .entry)) (now (image .entry))) r (now (log .exit)) (now (image .exit)) ⌝ }
+    requires { ⌜ Sound start ⌝ }
+    ensures { λ r. ⌜ Leaves (restRun runner start (now (file .entry)) from (now (log .entry)) (now (image .entry))) r (now (log .exit)) (now (image .exit)) ⌝ }
 {
     if log.len() < n * limits::ENTRY {
         return answer::refused(codes::ROOM, 0);
@@ -292,7 +289,7 @@ fn replayed(
     }
     let ran = run(file, from, n, start, log, 0);
     let s = ran.state;
-    let imaged = image::image(s, image);
+    let imaged = state::image(s, image);
     Answer {
         place: ran.place,
         logged: ran.logged,

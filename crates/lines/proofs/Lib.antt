@@ -1,5 +1,5 @@
 -- what the functions' proofs cite
-pub mod Places
+pub mod DigitCounts
 pub mod Spelling
 pub mod Shows
 pub mod Ahead

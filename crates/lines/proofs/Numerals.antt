@@ -10,8 +10,8 @@ use lib.Dec.{leb, ltb}
 use lib.ListN.{length, getD, List·getD-append}
 use Rattle.rows.specs.Walk.{every}
 use Rattle.rows.proofs.Cases.{on, both-true, true-both}
-use Rattle.lines.specs.Decimal.{digits, places, decimal}
-use Rattle.lines.proofs.Places.{places-one, places-more}
+use Rattle.lines.specs.Decimal.{digits, digitCount, decimal}
+use Rattle.lines.proofs.DigitCounts.{count-one, count-more}
 use Rattle.lines.proofs.Spelling.{length-digits}
 
 -- ---------- induction over the digits of a number
@@ -46,7 +46,7 @@ digits-alone (suc k) n =
     (λ j. rw (le-leb 48 (48 + n % 10) (omega arith), le-leb (48 + n % 10) 57 (omega arith)))
 
 pub only-digits : (n : ℕ) → every isDigit 0 (decimal n) ≡ true
-only-digits n = digits-alone (places n) n
+only-digits n = digits-alone (digitCount n) n
 
 -- ---------- the value
 
@@ -70,21 +70,21 @@ digits-value (suc k) n h =
     valued-append 0 (digits k (n / 10)) ((48 + n % 10) ∷ []) ∙ omega arith
 
 -- the number has a place for each of its digits
-pub places-enough : (n : ℕ) → n < 10 ^ places n
-places-enough = by-digits (λ n. n < 10 ^ places n)
-    (λ n h. rw (places-one n h) (omega arith))
-    (λ n h p. rw (places-more n h) (omega (arith, pow-suc 10 (places (n / 10)))))
+pub count-enough : (n : ℕ) → n < 10 ^ digitCount n
+count-enough = by-digits (λ n. n < 10 ^ digitCount n)
+    (λ n h. rw (count-one n h) (omega arith))
+    (λ n h p. rw (count-more n h) (omega (arith, pow-suc 10 (digitCount (n / 10)))))
 
 pub decimal-value : (n : ℕ) → value (decimal n) ≡ n
-decimal-value n = digits-value (places n) n (places-enough n)
+decimal-value n = digits-value (digitCount n) n (count-enough n)
 
 -- ---------- no zero in front
 
-places-some : (n : ℕ) → 0 < length (decimal n)
-places-some n = rw (length-digits (places n) n) (by-digits (λ m. 0 < places m) (λ m h. omega (arith, places-one m h)) (λ m h p. omega (arith, places-more m h)) n)
+count-some : (n : ℕ) → 0 < length (decimal n)
+count-some n = rw (length-digits (digitCount n) n) (by-digits (λ m. 0 < digitCount m) (λ m h. omega (arith, count-one m h)) (λ m h p. omega (arith, count-more m h)) n)
 
 -- a zero is the first digit of 0 alone
 pub no-zero-in-front : (n : ℕ) → 0 < n → 48 < getD (decimal n) 0 0
 no-zero-in-front = by-digits (λ n. 0 < n → 48 < getD (decimal n) 0 0)
-    (λ n h p. rw (places-one n h) (omega arith))
-    (λ n h q p. rw (places-more n h, List·getD-append (decimal (n / 10)) ((48 + n % 10) ∷ []) 0 0 (places-some (n / 10))) (q (omega arith)))
+    (λ n h p. rw (count-one n h) (omega arith))
+    (λ n h q p. rw (count-more n h, List·getD-append (decimal (n / 10)) ((48 + n % 10) ∷ []) 0 0 (count-some (n / 10))) (q (omega arith)))

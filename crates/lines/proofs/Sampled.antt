@@ -2,7 +2,7 @@
 use mathlib.Core.Path.{_≡_, refl}
 use mathlib.Core.List.{[], _∷_}
 use Rattle.schedule.specs.declared.answer.Answer.{Answer}
-use Rattle.lines.specs.Decimal.{placesUpTo}
+use Rattle.lines.specs.Decimal.{digitCountUpTo}
 use Rattle.lines.specs.Hex.{shown}
 use Rattle.lines.specs.Lines.{linesOf}
 
@@ -17,7 +17,7 @@ pub ran-lines : linesOf ran (9 ∷ 0 ∷ 0 ∷ 0 ∷ 0 ∷ 7 ∷ 0 ∷ 0 ∷ 0 �
     108 ∷ 111 ∷ 103 ∷ 32 ∷ 48 ∷ 57 ∷ 48 ∷ 48 ∷ 48 ∷ 48 ∷ 48 ∷ 48 ∷ 48 ∷ 48 ∷ 48 ∷ 55 ∷ 48 ∷ 48 ∷ 48 ∷ 48 ∷ 48 ∷ 48 ∷ 54 ∷ 51 ∷ 10 ∷
     -- state 0001
     115 ∷ 116 ∷ 97 ∷ 116 ∷ 101 ∷ 32 ∷ 48 ∷ 48 ∷ 48 ∷ 49 ∷ 10 ∷ []
-unfolding placesUpTo
+unfolding digitCountUpTo
 ran-lines = refl
 
 -- a refusal, with nothing logged and no state
@@ -31,7 +31,7 @@ pub refused-lines : linesOf refused [] [] ≡
     108 ∷ 111 ∷ 103 ∷ 32 ∷ 45 ∷ 10 ∷
     -- state -
     115 ∷ 116 ∷ 97 ∷ 116 ∷ 101 ∷ 32 ∷ 45 ∷ 10 ∷ []
-unfolding placesUpTo
+unfolding digitCountUpTo
 refused-lines = refl
 
 -- 0123456789ABCDEF

@@ -8,7 +8,7 @@ use lib.ListN.{length, set, length-set, length-append}
 use lib.Seq.{set-comm}
 use Rattle.rows.specs.Stores.{puts, Laid}
 use Rattle.rows.proofs.Stores.{whole-laid, too-short, too-far}
-use Rattle.lines.specs.Decimal.{digits, places, decimal}
+use Rattle.lines.specs.Decimal.{digits, digitCount, decimal}
 
 pub length-digits : (k n : ℕ) → length (digits k n) ≡ k
 length-digits zero n = refl
@@ -55,9 +55,9 @@ module _ (out₀ : List ℕ) (at n k : ℕ) where
 
 -- ---------- the whole number: all its digits, or none where they do not fit
 
-module _ (l : List ℕ) (at n k : ℕ) (all : k ≡ places n) where
+module _ (l : List ℕ) (at n k : ℕ) (all : k ≡ digitCount n) where
   decimal-long : length (decimal n) ≡ k
-  decimal-long = rw all (length-digits (places n) n)
+  decimal-long = rw all (length-digits (digitCount n) n)
 
   pub decimal-short : length l < k → Laid l at (decimal n) at l
   decimal-short h = too-short l at (decimal n) (omega (arith, decimal-long))

@@ -11,10 +11,10 @@ use Rattle.rows.specs.Stores.{Laid}
 use Rattle.rows.proofs.Stores.{laid-whole, laid-length, laid-then, puts-over}
 use Rattle.schedule.specs.Limits as limit
 use Rattle.schedule.specs.declared.answer.Answer.{Answer}
-use Rattle.lines.specs.Decimal.{places, decimal}
+use Rattle.lines.specs.Decimal.{digitCount, decimal}
 use Rattle.lines.specs.Hex.{shown}
 use Rattle.lines.specs.Lines.{verdictWord, atWord, logWord, stateWord, lineEnd, verdictLine, rowLine, longestVerdict, linesOf, longestLog, most, linesIn, Written}
-use Rattle.lines.proofs.Places.{places-few}
+use Rattle.lines.proofs.DigitCounts.{count-few}
 use Rattle.lines.proofs.Spelling.{length-digits}
 use Rattle.lines.proofs.Shows.{shown-long}
 use Rattle.lines.proofs.Ahead.{ahead-begins, ahead-more, ahead-ends}
@@ -22,7 +22,7 @@ use Rattle.lines.proofs.Ahead.{ahead-begins, ahead-more, ahead-ends}
 -- ---------- the first line
 
 decimal-few : (k n : ℕ) → n < 10 ^ suc k → length (decimal n) ≤ suc k
-decimal-few k n h = rw (length-digits (places n) n) (places-few k n h)
+decimal-few k n h = rw (length-digits (digitCount n) n) (count-few k n h)
 
 module _ (code place : ℕ) (byte : code < 256) (word : place < 2 ^ 64) where
   pub verdict-few : length (verdictLine code place) ≤ longestVerdict

@@ -10,12 +10,12 @@ digits zero n = []
 digits (suc k) n = digits k (n / 10) ++ ((48 + n % 10) ∷ [])
 
 -- how many digits n has: one, and one more for each time that it can be divided by ten, of which n times are always enough
-unfoldable pub placesUpTo : ℕ → ℕ → ℕ
-placesUpTo zero n = 1
-placesUpTo (suc times) n = cond (ltb 9 n) (suc (placesUpTo times (n / 10))) 1
+unfoldable pub digitCountUpTo : ℕ → ℕ → ℕ
+digitCountUpTo zero n = 1
+digitCountUpTo (suc times) n = cond (ltb 9 n) (suc (digitCountUpTo times (n / 10))) 1
 
-abbrev pub places : ℕ → ℕ
-places n = placesUpTo n n
+abbrev pub digitCount : ℕ → ℕ
+digitCount n = digitCountUpTo n n
 
 abbrev pub decimal : ℕ → List ℕ
-decimal n = digits (places n) n
+decimal n = digits (digitCount n) n

@@ -61,6 +61,6 @@ pub record Written (out : List ℕ) (a : Answer) (log image : List ℕ) (r : ℕ
   pub count : r ≡ length (linesIn (length out) a log image)
   pub bytes : out′ ≡ over (linesIn (length out) a log image) out
 
--- r counts bytes at the start of a buffer. The second part follows from the first; both stand so that `&buffer[..r]` needs no proof of its caller's
-abbrev pub Counts : ℕ → List ℕ → Type 0
-Counts r buffer = (r ≤ length buffer) × (r ≡ length (take r buffer))
+-- the first r bytes of a buffer are there. The second part follows from the first; both stand so that `&buffer[..r]` needs no proof of its caller's
+abbrev pub InFront : ℕ → List ℕ → Type 0
+InFront r buffer = (r ≤ length buffer) × (r ≡ length (take r buffer))

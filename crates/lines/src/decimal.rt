@@ -3,13 +3,13 @@ ghost use mathlib.Core.Path.{_≡_};
 ghost use Prim.Native.Nat.{_+_, _≤_};
 ghost use lib.ListN.{length};
 ghost use Rattle.rows.specs.Stores.{Laid};
-ghost use Rattle.lines.specs.Decimal.{places, digits, decimal};
+ghost use Rattle.lines.specs.Decimal.{digitCount, digits, decimal};
 
 // The digits at a place of the buffer, all or nothing; the answer is the place after them.
 pub fn put_decimal(out: &mut [u8], at: usize, n: usize) -> usize
     ensures { λ r. ⌜ Laid (now (out .entry)) at (decimal n) r (now (out .exit)) ⌝ }
 {
-    let k = places_of(n);
+    let k = digit_count(n);
     if out.len() < k {
         return at;
     }
@@ -20,8 +20,8 @@ pub fn put_decimal(out: &mut [u8], at: usize, n: usize) -> usize
 }
 
 // How many digits n has.
-fn places_of(n: usize) -> usize
-    ensures { λ r. ⌜ r ≡ places n ⌝ }
+fn digit_count(n: usize) -> usize
+    ensures { λ r. ⌜ r ≡ digitCount n ⌝ }
     ensures { λ r. ⌜ r ≤ 20 ⌝ }
 {
     let mut k: usize = 1;

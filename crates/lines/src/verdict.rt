@@ -6,7 +6,7 @@ use schedule::limits;
 ghost use Prim.Native.Nat.{_+_, _*_, _≤_};
 ghost use lib.ListN.{length};
 ghost use Rattle.rows.specs.Stores.{Laid};
-ghost use Rattle.lines.specs.Lines.{verdictLine, rowLine, longestVerdict, Written, Counts};
+ghost use Rattle.lines.specs.Lines.{verdictLine, rowLine, longestVerdict, Written, InFront};
 
 // The longest log that a file has, and the most bytes that the lines can take: two digits for each byte shown, and 50 more for the words, two
 // numbers of at most 3 and 20 digits, the line ends, and two hyphens.
@@ -18,7 +18,7 @@ pub const MOST: usize = 2 * (LOG + limits::IMAGE) + 50;
 // longer than any file has.
 pub fn put_lines(out: &mut [u8], answer: Answer, log: &[u8], image: &[u8]) -> usize
     ensures { λ r. ⌜ Written (now (out .entry)) answer (now (log .entry)) (now (image .entry)) r (now (out .exit)) ⌝ }
-    ensures { λ r. ⌜ Counts r (now (out .exit)) ⌝ }
+    ensures { λ r. ⌜ InFront r (now (out .exit)) ⌝ }
 {
     write_lines(out, answer, log, image)
 }

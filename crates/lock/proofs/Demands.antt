@@ -1,9 +1,9 @@
--- Demand 3's share: the state after a history is told by counts of the history, so that every history from a fresh lock meets the demand, its cells
--- are counted, and every state on the way is sound. Assumes nothing.
+-- Demand 3's share: the state after a history is told by counts of the history, so that every history from a fresh lock meets the demand, and its cells
+-- are counted. Assumes nothing.
 use Prim.Native.Nat.{ℕ, _+_, _≤_, _<_}
 use mathlib.Core.Path.{_≡_, refl, _∙_}
 use mathlib.Core.Bool.{true, _&&_}
-use mathlib.Core.List.{[], _∷_, _++_}
+use mathlib.Core.List.{[], _∷_}
 use native.Mathlib.Omega.{arith}
 use lib.Dec.{eqb}
 use borrow.Author.Tests.{eqb-true, ltb-true, not-true}
@@ -11,33 +11,29 @@ use Rattle.rows.specs.Walk.{bit}
 use Rattle.rows.proofs.Cases.{on, clash, tick-bit}
 use Rattle.machine.specs.Machine.{Accepted}
 use Rattle.machine.specs.History.{event, Run}
-use Rattle.machine.proofs.Runs.{always, earlier}
+use Rattle.machine.proofs.Runs.{always}
 use Rattle.schedule.specs.Limits as limit
 use Rattle.schedule.specs.declared.steps.LockStep.{LockStep}
 use Rattle.schedule.specs.declared.steps.LockStep.the-variants.{ExcStart, ExcCheckCount, ExcFinish, ExcRelease, SharedStart, SharedFinish, SharedRelease}
 use Rattle.lock.specs.Lock.{lock, freshState, cell, next}
-use Rattle.lock.specs.Refined.{Sound}
-use Rattle.lock.specs.Demand.{Hist, starts, releases, handedOut, givenBack, taken, returned, ReaderAt, Writer, inForce, Demand, Demanded, CellsCounted}
+use Rattle.lock.specs.Demand.{Hist, sharedStarts, sharedReleases, handedOut, givenBack, taken, returned, ReaderAt, Writer, inForce, Demand, Demanded, CellsCounted}
 use Rattle.lock.specs.declared.state.State.{State}
 use Rattle.lock.proofs.Filtered.{carrying, stands, carrying-none, carrying-more, carrying-down}
 use Rattle.lock.proofs.Phases.{unlocked-away, checking-stored}
-use Rattle.lock.proofs.Plain.{Plain}
-use Rattle.lock.proofs.Sounds.{plain-sound, zero-at, fresh-plain}
+use Rattle.lock.proofs.Plain.{guards, Plain}
+use Rattle.lock.proofs.Sounds.{zero-at, fresh-plain}
 use Rattle.lock.proofs.Changed.{in-row, at-start, at-finish, at-release}
 use Rattle.lock.proofs.Kept.{plain-next}
 
 -- ---------- the state as counts of the history
 
-abbrev guardsOf : State → ℕ → ℕ
-guardsOf s r = cell s r .guards
-
 pub record Inv (t₀ : ℕ) (h : Hist) (s : State) : Type 0 where
   pub plain : Plain s
   -- a record in store is the one in force
   pub store : s .head .stored ≡ true → s .head .t ≡ inForce t₀ h
-  pub cells : (r : ℕ) → cell s r .count + releases h r ≡ starts h r
+  pub cells : (r : ℕ) → cell s r .count + sharedReleases h r ≡ sharedStarts h r
   -- of each cell and record: handed out are those given back and those that the state still counts, and these carry the record in force
-  pub readers : (r u : ℕ) → handedOut h r u ≡ givenBack h r u + carrying (inForce t₀ h) (guardsOf s) (r, u)
+  pub readers : (r u : ℕ) → handedOut h r u ≡ givenBack h r u + carrying (inForce t₀ h) (guards (s .cells)) (r, u)
   pub writers : taken h ≡ returned h + bit (s .head .guard)
 
 module _ (t₀ : ℕ) (h : Hist) (s : State) (i : Inv t₀ h s) where
@@ -82,7 +78,7 @@ module _ (t₀ : ℕ) (h : Hist) (s : State) (i : Inv t₀ h s) where
         cells = i .cells;
         readers = λ r u.
             let z = i .plain .cells r .clear (rw (a .0)) in
-            omega (arith, i .readers r u, carrying-none (inForce t₀ h) (guardsOf s) r u z, carrying-none t (guardsOf s) r u z);
+            omega (arith, i .readers r u, carrying-none (inForce t₀ h) (guards (s .cells)) r u z, carrying-none t (guards (s .cells)) r u z);
         writers = omega (arith, rw (a .0) at (i .writers));
       }
 
@@ -107,7 +103,7 @@ module _ (t₀ : ℕ) (h : Hist) (s : State) (i : Inv t₀ h s) where
         store = i .store;
         cells = λ q. omega (arith, f q .0, i .cells q);
         readers = λ q u. rw (e, tick-bit (eqb u (inForce t₀ h) && eqb q r))
-            (omega (arith, i .readers q u, carrying-more (inForce t₀ h) r (guardsOf s) (guardsOf (next s (SharedFinish r))) (λ k. f k .2) (q, u)));
+            (omega (arith, i .readers q u, carrying-more (inForce t₀ h) r (guards (s .cells)) (guards (next s (SharedFinish r) .cells)) (λ k. f k .2) (q, u)));
         writers = i .writers;
       }
 
@@ -121,7 +117,7 @@ module _ (t₀ : ℕ) (h : Hist) (s : State) (i : Inv t₀ h s) where
         store = i .store;
         cells = λ q. rw (tick-bit (eqb q r)) (omega (arith, f q .0, i .cells q));
         readers = λ q u. rw (e, tick-bit (eqb u (inForce t₀ h) && eqb q r))
-            (omega (arith, i .readers q u, carrying-down (inForce t₀ h) r (guardsOf s) (guardsOf (next s (SharedRelease r t))) (λ k. f k .2) (q, u)));
+            (omega (arith, i .readers q u, carrying-down (inForce t₀ h) r (guards (s .cells)) (guards (next s (SharedRelease r t) .cells)) (λ k. f k .2) (q, u)));
         writers = i .writers;
       }
 
@@ -139,7 +135,7 @@ keep t₀ h s (SharedRelease r t) i a = keep-shared-release t₀ h s i r t a
 module _ (t₀ : ℕ) (h : Hist) (s : State) (i : Inv t₀ h s) where
   -- a reader guard that the history leaves is one that the state counts
   standing : (r u : ℕ) → ReaderAt h r u → (u ≡ inForce t₀ h) × (0 < cell s r .guards)
-  standing r u l = stands (inForce t₀ h) (guardsOf s) r u (omega (arith, i .readers r u))
+  standing r u l = stands (inForce t₀ h) (guards (s .cells)) r u (omega (arith, i .readers r u))
 
   -- and where a writer's stands, it counts none
   none-beside : Writer h → (r : ℕ) → cell s r .guards ≡ 0
@@ -169,23 +165,15 @@ module _ (w t₀ : ℕ) (low : 1 ≤ w) (high : w ≤ limit.width) where
         plain = fresh-plain w t₀ low high;
         store = λ e. refl;
         cells = λ r. rw (zero-at limit.width r);
-        readers = λ r u. rw (carrying-none t₀ (guardsOf (freshState w t₀)) r u (rw (zero-at limit.width r)));
+        readers = λ r u. rw (carrying-none t₀ (guards (freshState w t₀ .cells)) r u (rw (zero-at limit.width r)));
         writers = refl;
       }
 
   pub run-inv : {h : Hist} {s : State} → Run lock (freshState w t₀) h s → Inv t₀ h s
   run-inv r = always lock (freshState w t₀) (Inv t₀) fresh (keep t₀) r
 
-  pub every-prefix-sound : {h : Hist} {s : State} → Run lock (freshState w t₀) h s → Sound s
-  every-prefix-sound {s = s} r = plain-sound s (run-inv r .plain)
-
 pub demanded : Demanded
 demanded w t₀ low high h s r = demand t₀ h s (run-inv w t₀ low high r)
 
 pub cells-counted : CellsCounted
 cells-counted w t₀ low high h s r = run-inv w t₀ low high r .cells
-
--- and so does every part of it from the fresh lock on
-pub demanded-before : (w t₀ : ℕ) → 1 ≤ w → w ≤ limit.width → (later h : Hist) (s : State) → Run lock (freshState w t₀) (later ++ h) s
-    → Demand t₀ h
-demanded-before w t₀ low high later h s r = let e = earlier lock (freshState w t₀) later r in demanded w t₀ low high h (e .0) (e .1)

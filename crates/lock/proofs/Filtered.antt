@@ -4,15 +4,16 @@ use Prim.Native.Nat.{ℕ, _+_, _<_}
 use mathlib.Core.Path.{_≡_, refl, sym, _∙_}
 use mathlib.Core.Logic.{_⊎_, inl, inr}
 use mathlib.Core.List.{List, [], _∷_}
+use mathlib.Core.Option.{some}
 use native.Mathlib.Omega.{arith}
 use lib.Dec.{eqb, ltb}
 use borrow.Author.Tests.{eqb-true, eqb-false, ltb-true, ltb-false}
 use Rattle.rows.specs.Walk.{sum, bit}
 use Rattle.rows.proofs.Cases.{on}
 use Rattle.machine.specs.Multiset.{Multiset, insert, remove}
-use Rattle.machine.proofs.Multisets.{only, only-here, only-other}
-use Rattle.lock.specs.Source.{same-guard}
-use Rattle.lock.specs.Invariants.{Occurs, Once, Filter-len}
+use Rattle.machine.proofs.Multisets.{only}
+use Rattle.lock.specs.Source.{DistRwLock, same-guard}
+use Rattle.lock.specs.Invariants.{Occurs, Once, Filter-len, shared-counts-agree}
 
 -- ---------- a sum over different numbers of what is 0 but at t
 
@@ -23,7 +24,7 @@ module _ (f : ℕ → ℕ) (t : ℕ) (elsewhere : (u : ℕ) → (u ≡ t → ⊥
   sum-absent (u ∷ l) n = omega (arith, elsewhere u (λ e. n (inl (sym e))), sum-absent l (λ o. n (inr o)))
 
   -- t is among them, if f is not 0 there too
-  pub sum-once : (l : List ℕ) → Once l → (0 < f t → Occurs t l) → sum f l ≡ f t
+  sum-once : (l : List ℕ) → Once l → (0 < f t → Occurs t l) → sum f l ≡ f t
   sum-once [] o a = on (ltb 0 (f t)) (λ b. absurd (a (ltb-true 0 (f t) b))) (λ b. omega (arith, ltb-false 0 (f t) b))
   sum-once (u ∷ l) o a = on (eqb u t)
       (λ b. let e = eqb-true u t b in rw e (omega (arith, sum-absent l (rw e at (o .0)))))
@@ -60,16 +61,28 @@ module _ (t r : ℕ) (guards guards′ : ℕ → ℕ) where
       → carrying t guards′ v ≡ remove same-guard (r, t) (carrying t guards) v
   carrying-less e v = omega (arith, carrying-down e v)
 
--- ---------- filter_r(shared_guard, r).len()
+-- ---------- filter_r(shared_guard, r).len(), where all guards carry one record
 
-module _ (t : ℕ) (guards : ℕ → ℕ) (r : ℕ) where
-  pub filter-len : (n : ℕ) → Filter-len (carrying t guards) r n → n ≡ guards r
-  filter-len n f = f .len ∙ sum-once (only t (guards r)) t (only-other t (guards r)) (f .records) (f .once) (f .all t) ∙ only-here t (guards r)
+module _ (m : DistRwLock) (t : ℕ) where
+  abbrev pub Carry : Type 0
+  Carry = (r u : ℕ) → (u ≡ t → ⊥) → m .shared-guard (r, u) ≡ 0
 
-  pub filter-finite : Filter-len (carrying t guards) r (guards r)
-  filter-finite = record {
-    records = t ∷ [];
-    once = ((λ o. o), tt);
-    all = λ u h. inl (stands t guards r u h .0);
-    len = omega (arith, only-here t (guards r));
-  }
+  -- each count is that of the pending readers and of the guards that carry t
+  abbrev pub Counted : Type 0
+  Counted = (r : ℕ) → r < m .rc-width → (rc : ℕ) → m .ref-counts r ≡ some rc → rc ≡ m .shared-pending r + m .shared-guard (r, t)
+
+  filtered : Carry → (r n : ℕ) → Filter-len (m .shared-guard) r n → n ≡ m .shared-guard (r, t)
+  filtered c r n f = f .len ∙ sum-once (λ u. m .shared-guard (r, u)) t (c r) (f .records) (f .once) (f .all t)
+
+  pub counted : Carry → shared-counts-agree m → Counted
+  counted c a r l rc e = let f = a .finite r in omega (arith, a .agree r l rc (f .0) e (f .1), filtered c r (f .0) (f .1))
+
+  pub agreeing : Carry → Counted → shared-counts-agree m
+  agreeing c a =
+      record {
+        agree = λ r l rc n e f. omega (arith, a r l rc e, filtered c r n f);
+        finite = λ r. (m .shared-guard (r, t), record { records = t ∷ []; once = ((λ o. o), tt); all = λ u g. inl (alone r u g); len = omega arith });
+      }
+    where
+      alone : (r u : ℕ) → 0 < m .shared-guard (r, u) → u ≡ t
+      alone r u g = on (eqb u t) (λ b. eqb-true u t b) (λ b. absurd (omega (arith, c r u (eqb-false u t b))))

@@ -9,11 +9,13 @@ use native.Mathlib.Omega.{arith}
 use lib.Dec.{eqb, ltb}
 use borrow.Author.Tests.{eqb-true, eqb-false, eq-eqb, ne-eqb, lt-ltb, le-ltb}
 use Rattle.rows.proofs.Cases.{on, clash, both-true}
+use Rattle.machine.specs.Map.{at-key}
 use Rattle.machine.specs.Multiset.{Multiset, insert, remove}
 use Rattle.lock.specs.Source as source
-use Rattle.lock.specs.Source.{DistRwLock, same-guard, at-key, Initialize, Transition, Moves, Safe, with-writer, with-readers}
+use Rattle.lock.specs.Source.{DistRwLock, same-guard, Initialize, Transition, Moves, Safe, with-writer, with-readers}
 use Rattle.lock.specs.Invariants.{ref-counts-domain, exc-inv, shared-inv-agree, Invariants, do-guard}
-use Rattle.lock.proofs.Upheld.{is-some, some-of, neither, getD-some, counted, agreeing, carried, one-record, unlocked, empty-store, not-pending, no-reader, inside}
+use Rattle.lock.proofs.Filtered.{counted, agreeing}
+use Rattle.lock.proofs.Upheld.{is-some, some-of, neither, getD-some, carried, one-record, unlocked, empty-store, not-pending, no-reader, inside}
 
 module _ (pre : DistRwLock) (i : Invariants pre) where
   -- ---------- the writer's transitions leave counts, pending readers and guards as they are

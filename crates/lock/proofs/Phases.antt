@@ -1,13 +1,13 @@
 -- Where the writer is: away, checking the cells, or holding the guard. The test of the head says which, and each says what the flags are. Assumes nothing.
 use Prim.Native.Nat.{ℕ, _≤_}
 use mathlib.Core.Path.{_≡_, refl}
-use mathlib.Core.Bool.{Bool, true, false, cond, not, _&&_}
+use mathlib.Core.Bool.{Bool, true, false, not, _&&_}
 use native.Mathlib.Omega.{arith}
 use lib.Dec.{eqb, ltb}
 use borrow.Author.Tests.{eqb-true, eqb-false, ne-eqb, ltb-false, le-ltb, not-true}
 use Rattle.rows.proofs.Cases.{clash, both-true}
 use Rattle.schedule.specs.Limits as limit
-use Rattle.lock.specs.Sound.{headSound}
+use Rattle.lock.specs.Sound.{writerSound, headSound}
 use Rattle.lock.specs.declared.state.Head.{Head}
 
 abbrev pub awayHead : ℕ → ℕ → Head
@@ -16,26 +16,16 @@ awayHead t w = record { t = t; width = w; cursor = 0; locked = false; stored = t
 abbrev pub checkingHead : ℕ → ℕ → ℕ → Head
 checkingHead t w c = record { t = t; width = w; cursor = c; locked = true; stored = true; pending = true; guard = false }
 
-abbrev pub takenHead : ℕ → Head
-takenHead w = record { t = 0; width = w; cursor = 0; locked = true; stored = false; pending = false; guard = true }
+abbrev pub holdingHead : ℕ → Head
+holdingHead w = record { t = 0; width = w; cursor = 0; locked = true; stored = false; pending = false; guard = true }
 
 -- away, with the record t in store; checking the cells, up to c; or holding the guard, with nothing in store
 pub data Phase : Head → Type 0 where
   away : (t w : ℕ) → Phase (awayHead t w)
   checking : (t w c : ℕ) → c ≤ w → Phase (checkingHead t w c)
-  taken : (w : ℕ) → Phase (takenHead w)
+  holding : (w : ℕ) → Phase (holdingHead w)
 
 -- ---------- the test of the head
-
--- what is asked of it beside the width
-abbrev writerSound : Head → Bool
-writerSound h =
-    cond (h .guard)
-    (not (h .pending) && (not (h .stored) && (eqb (h .t) 0 && (eqb (h .cursor) 0 && h .locked))))
-    (h .stored
-    && cond (h .pending)
-    (not (ltb (h .width) (h .cursor)) && h .locked)
-    (not (h .locked) && eqb (h .cursor) 0))
 
 -- a head by its flags and its numbers: a claim by the cases of the flags is one about every head
 abbrev pub head : Bool → Bool → Bool → Bool → ℕ → ℕ → ℕ → Head
@@ -47,7 +37,7 @@ phase-of true false true locked t w c e = clash (cc)
 phase-of true false false locked t w c e =
     let k = both-true (eqb t 0) (eqb c 0 && locked) e in
     let j = both-true (eqb c 0) locked (k .1) in
-    rw (eqb-true t 0 (k .0), eqb-true c 0 (j .0), j .1) (taken w)
+    rw (eqb-true t 0 (k .0), eqb-true c 0 (j .0), j .1) (holding w)
 phase-of false pending false locked t w c e = clash (cc)
 phase-of false true true locked t w c e =
     let k = both-true (not (ltb w c)) locked e in
@@ -59,10 +49,10 @@ phase-of false false true locked t w c e =
 phase-tested : {h : Head} → Phase h → writerSound h ≡ true
 phase-tested (away t w) = refl
 phase-tested (checking t w c l) = rw (le-ltb w c l)
-phase-tested (taken w) = refl
+phase-tested (holding w) = refl
 
-pub head-told : (h : Head) → headSound h ≡ true → (1 ≤ h .width) × (h .width ≤ limit.width) × Phase h
-head-told h e =
+pub head-means : (h : Head) → headSound h ≡ true → (1 ≤ h .width) × (h .width ≤ limit.width) × Phase h
+head-means h e =
     let k = both-true (not (eqb (h .width) 0)) (not (ltb limit.width (h .width)) && writerSound h) e in
     let j = both-true (not (ltb limit.width (h .width))) (writerSound h) (k .1) in
     let n = eqb-false (h .width) 0 (not-true (eqb (h .width) 0) (k .0)) in (
@@ -71,8 +61,8 @@ head-told h e =
       phase-of (h .guard) (h .pending) (h .stored) (h .locked) (h .t) (h .width) (h .cursor) (j .1),
     )
 
-pub told-head : (h : Head) → 1 ≤ h .width → h .width ≤ limit.width → Phase h → headSound h ≡ true
-told-head h low high p = rw (ne-eqb (h .width) 0 (omega arith), le-ltb limit.width (h .width) high) (phase-tested p)
+pub means-head : (h : Head) → 1 ≤ h .width → h .width ≤ limit.width → Phase h → headSound h ≡ true
+means-head h low high p = rw (ne-eqb (h .width) 0 (omega arith), le-ltb limit.width (h .width) high) (phase-tested p)
 
 -- ---------- what the flags are
 
@@ -80,21 +70,21 @@ told-head h low high p = rw (ne-eqb (h .width) 0 (omega arith), le-ltb limit.wid
 pub unlocked-away : {h : Head} → Phase h → h .locked ≡ false → (h .stored ≡ true) × (h .pending ≡ false) × (h .guard ≡ false)
 unlocked-away (away t w) e = (refl, refl, refl)
 unlocked-away (checking t w c l) e = clash (cc)
-unlocked-away (taken w) e = clash (cc)
+unlocked-away (holding w) e = clash (cc)
 
 -- a writer that checks finds a record in store, and has no guard yet
 pub checking-stored : {h : Head} → Phase h → h .pending ≡ true → (h .stored ≡ true) × (h .guard ≡ false)
 checking-stored (away t w) e = clash (cc)
 checking-stored (checking t w c l) e = (refl, refl)
-checking-stored (taken w) e = clash (cc)
+checking-stored (holding w) e = clash (cc)
 
 -- what is not in use is zero
 pub unused-record : {h : Head} → Phase h → h .stored ≡ false → h .t ≡ 0
 unused-record (away t w) e = clash (cc)
 unused-record (checking t w c l) e = clash (cc)
-unused-record (taken w) e = refl
+unused-record (holding w) e = refl
 
 pub unused-cursor : {h : Head} → Phase h → h .pending ≡ false → h .cursor ≡ 0
 unused-cursor (away t w) e = refl
 unused-cursor (checking t w c l) e = clash (cc)
-unused-cursor (taken w) e = refl
+unused-cursor (holding w) e = refl

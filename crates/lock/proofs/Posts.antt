@@ -1,43 +1,39 @@
--- An accepted step is the source's transition, to what the state after it stands for. Assumes nothing.
+-- An accepted step is the source's transition, to what the state after it stands for and nowhere else; it logs what the source hands out, and what the
+-- source deposits, withdraws and adds is safe. Assumes nothing.
 use Prim.Native.Nat.{ℕ}
 use mathlib.Core.Path.{_≡_, refl, sym, _∙_, ap}
 use mathlib.Core.Bool.{true}
-use mathlib.Core.Option.{Option, Option·getD}
+use mathlib.Core.Option.{some, Option·getD}
 use native.Mathlib.Omega.{arith}
 use lib.Dec.{eqb, ltb}
 use borrow.Author.Tests.{eqb-true, ltb-true, not-true}
 use Rattle.rows.proofs.Cases.{on}
 use Rattle.rows.proofs.Row.{row}
+use Rattle.machine.specs.Map.{at-key}
 use Rattle.machine.specs.Machine.{Accepted}
-use Rattle.machine.specs.Multiset.{Multiset}
 use Rattle.machine.proofs.Multisets.{only}
 use Rattle.schedule.specs.declared.steps.LockStep.{LockStep}
 use Rattle.schedule.specs.declared.steps.LockStep.the-variants.{ExcStart, ExcCheckCount, ExcFinish, ExcRelease, SharedStart, SharedFinish, SharedRelease}
 use Rattle.lock.specs.Source as source
-use Rattle.lock.specs.Source.{DistRwLock, at-key, with-readers, Moves}
-use Rattle.lock.specs.Lock.{lock, zeroCell, cell, withCell, next}
-use Rattle.lock.specs.Refined.{abs, label}
+use Rattle.lock.specs.Source.{DistRwLock, Transition, Moves, Safe}
+use Rattle.lock.specs.Lock.{lock, zeroCell, cell, withCell, next, logs}
+use Rattle.lock.specs.Refined.{abs, label, Sound, HandsOut}
 use Rattle.lock.specs.declared.state.Cell.{Cell}
 use Rattle.lock.specs.declared.state.State.{State}
 use Rattle.lock.proofs.Filtered.{carrying-none, carrying-more, carrying-less}
-use Rattle.lock.proofs.Phases.{unlocked-away}
-use Rattle.lock.proofs.Plain.{Plain}
+use Rattle.lock.proofs.Phases.{unlocked-away, checking-stored}
+use Rattle.lock.proofs.Plain.{guards, Plain}
+use Rattle.lock.proofs.Upheld.{same-readers}
+use Rattle.lock.proofs.Sounds.{sound-plain}
 use Rattle.lock.proofs.Changed.{in-row, at-start, at-finish, at-release}
 use Rattle.lock.proofs.Kept.{plain-next}
-
--- two states of the source are equal where they differ at most in maps and multisets, and these are equal at each place
-pub same-readers : (m : DistRwLock) {f f′ : ℕ → Option ℕ} {p p′ : Multiset ℕ} {g g′ : Multiset (ℕ × ℕ)}
-    → ((i : ℕ) → f i ≡ f′ i) → ((r : ℕ) → p r ≡ p′ r) → ((v : ℕ × ℕ) → g v ≡ g′ v) → with-readers m f p g ≡ with-readers m f′ p′ g′
-same-readers m a b c = λ i. with-readers m (λ k. a k i) (λ r. b r i) (λ v. c v i)
+use Rattle.lock.proofs.Inductive.{safe}
 
 module _ (s : State) (p : Plain s) where
-  abbrev guards : ℕ → ℕ
-  guards r = cell s r .guards
-
   -- ---------- the writer's steps. Where the record in store changes no guard stands, so that the guards are none of either record
 
-  no-guards : (t u : ℕ) → ((r : ℕ) → guards r ≡ 0) → (v : ℕ × ℕ) → only t (guards (v .0)) (v .1) ≡ only u (guards (v .0)) (v .1)
-  no-guards t u z v = carrying-none t guards (v .0) (v .1) (z (v .0)) ∙ sym (carrying-none u guards (v .0) (v .1) (z (v .0)))
+  no-guards : (t u : ℕ) → ((r : ℕ) → guards (s .cells) r ≡ 0) → (v : ℕ × ℕ) → only t (guards (s .cells) (v .0)) (v .1) ≡ only u (guards (s .cells) (v .0)) (v .1)
+  no-guards t u z v = carrying-none t (guards (s .cells)) (v .0) (v .1) (z (v .0)) ∙ sym (carrying-none u (guards (s .cells)) (v .0) (v .1) (z (v .0)))
 
   exc-start : Accepted lock s ExcStart → source.Exc-start (abs s) (abs (next s ExcStart))
   exc-start a = record { require = not-true (s .head .locked) (a .0); update = refl }
@@ -94,7 +90,7 @@ module _ (s : State) (p : Plain s) where
         require = e;
         removes = ltb-true 0 (cell s r .pending) (a .1 .1 .0);
         update = same-readers (abs s) (λ i. rw (f i .0)) (λ q. omega (arith, f q .1))
-            (λ v. rw t (carrying-more (s .head .t) r guards (λ q. cell (next s (SharedFinish r)) q .guards) (λ q. f q .2) v));
+            (λ v. rw t (carrying-more (s .head .t) r (guards (s .cells)) (guards (next s (SharedFinish r) .cells)) (λ q. f q .2) v));
       }
 
   shared-release : (r t : ℕ) → Accepted lock s (SharedRelease r t) → source.Shared-release (abs s) (r, t) (abs (next s (SharedRelease r t)))
@@ -107,12 +103,12 @@ module _ (s : State) (p : Plain s) where
         removes = rw (a .0);
         update = rw (eqb-true t (s .head .t) (a .1 .1 .1 .0))
             (same-readers (abs s) (counts-at r _ (a .0)) (λ q. f q .1)
-            (carrying-less (s .head .t) r guards (λ q. cell (next s (SharedRelease r t)) q .guards) (λ q. f q .2)));
+            (carrying-less (s .head .t) r (guards (s .cells)) (guards (next s (SharedRelease r t) .cells)) (λ q. f q .2)));
       }
 
 -- ---------- every step
 
-pub plain-moves : (s : State) (x : LockStep) → Plain s → Accepted lock s x → Moves (abs s) (label x) (abs (next s x))
+plain-moves : (s : State) (x : LockStep) → Plain s → Accepted lock s x → Moves (abs s) (label x) (abs (next s x))
 plain-moves s ExcStart p a = exc-start s p a
 plain-moves s ExcCheckCount p a = exc-check-count s p a
 plain-moves s ExcFinish p a = exc-finish s p a
@@ -120,3 +116,38 @@ plain-moves s (ExcRelease t) p a = exc-release s p t a
 plain-moves s (SharedStart r) p a = shared-start s p r a
 plain-moves s (SharedFinish r) p a = shared-finish s p r a
 plain-moves s (SharedRelease r t) p a = shared-release s p r t a
+
+-- ---------- a transition has one state after it
+
+same : {a b : ℕ} → some a ≡ some b → a ≡ b
+same e = cc
+
+moves-one : (l : Transition) (m p q : DistRwLock) → Moves m l p → Moves m l q → p ≡ q
+moves-one source.exc-start m p q v w = v .update ∙ sym (w .update)
+moves-one source.exc-check-count m p q v w = rw (v .update, w .update, same (sym (v .removes) ∙ w .removes))
+moves-one source.exc-finish m p q v w = v .update ∙ sym (w .update)
+moves-one (source.exc-release t) m p q v w = v .update ∙ sym (w .update)
+moves-one (source.shared-start r) m p q v w = rw (v .update, w .update, same (sym (v .removes) ∙ w .removes))
+moves-one (source.shared-finish r) m p q v w = v .update ∙ sym (w .update)
+moves-one (source.shared-release val) m p q v w = rw (v .update, w .update, same (sym (v .removes) ∙ w .removes))
+
+pub accepted-moves : (s : State) (x : LockStep) → Sound s → Accepted lock s x → Moves (abs s) (label x) (abs (next s x))
+accepted-moves s x k a = plain-moves s x (sound-plain s k) a
+
+pub accepted-post : (s : State) (x : LockStep) (to : DistRwLock) → Sound s → Accepted lock s x → Moves (abs s) (label x) to → to ≡ abs (next s x)
+accepted-post s x to k a v = moves-one (label x) (abs s) to (abs (next s x)) v (accepted-moves s x k a)
+
+-- ---------- the log is what the source hands out, and what it deposits, withdraws and adds is safe
+
+pub accepted-logs : (s : State) (x : LockStep) → Sound s → Accepted lock s x → HandsOut (abs s) (label x) (logs s x)
+accepted-logs s ExcStart k a = refl
+accepted-logs s ExcCheckCount k a = refl
+accepted-logs s ExcFinish k a = (s .head .t, rw (checking-stored (sound-plain s k .phase) (a .0) .0), refl)
+accepted-logs s (ExcRelease t) k a = refl
+accepted-logs s (SharedStart r) k a = refl
+accepted-logs s (SharedFinish r) k a =
+    (s .head .t, rw (unlocked-away (sound-plain s k .phase) (not-true (s .head .locked) (a .1 .0)) .0), refl)
+accepted-logs s (SharedRelease r t) k a = refl
+
+pub accepted-safe : (s : State) (x : LockStep) → Sound s → Accepted lock s x → Safe (abs s) (label x)
+accepted-safe s x k a = safe (label x) (abs s) (abs (next s x)) (k .inv) (accepted-moves s x k a)

@@ -1,13 +1,13 @@
 -- Each public function's promise settles its answer: two answers that meet it are equal. Assumes nothing.
-use mathlib.Core.Path.{_≡_, sym, _∙_}
+use mathlib.Core.Path.{_≡_}
 use mathlib.Core.Bool.{Bool}
 use mathlib.Core.List.{List}
 use Prim.Native.Nat.{ℕ}
 use Rattle.rows.specs.Stores.{Laid}
-use Rattle.rows.proofs.Settled.{laid-settled}
+use Rattle.rows.proofs.Settled.{settled, laid-settled}
 use Rattle.machine.specs.Check.{first}
 use Rattle.schedule.specs.declared.steps.Step.{Step}
-use Rattle.lock.specs.Lock.{freshOf, checkTests, insideTests, finishTests}
+use Rattle.lock.specs.Lock.{freshOf, excCheckTests, insideTests, sharedFinishTests}
 use Rattle.lock.specs.Moved.{startedHead, checkedHead, finishedHead, releasedHead, startedCell, finishedCell, releasedCell}
 use Rattle.lock.specs.Sound.{sound}
 use Rattle.lock.specs.Image.{entryBytes, imageBytes}
@@ -21,21 +21,17 @@ use Rattle.lock.specs.declared.writer.HeadMoved.{HeadMoved}
 use Rattle.lock.specs.declared.reader.CellMoved.{CellMoved}
 use Rattle.lock.specs.declared.single.Answer.{Answer}
 
--- a promise that names its answer
-settled : {A : Type 0} {r q x : A} → r ≡ x → q ≡ x → r ≡ q
-settled a b = a ∙ sym b
-
 pub fresh-settled : (width t : ℕ) {r q : Made} → r ≡ freshOf width t → q ≡ freshOf width t → r ≡ q
 fresh-settled width t = settled
 
-pub sound-settled : (s : State) {r q : Bool} → r ≡ sound s → q ≡ sound s → r ≡ q
-sound-settled s = settled
+pub is-sound-settled : (s : State) {r q : Bool} → r ≡ sound s → q ≡ sound s → r ≡ q
+is-sound-settled s = settled
 
 pub image-settled : (s : State) {l : List ℕ} {r q : ℕ} {l′ m : List ℕ} → Laid l 0 (imageBytes s) r l′ → Laid l 0 (imageBytes s) q m → (r ≡ q) × (l′ ≡ m)
 image-settled s = laid-settled
 
-pub entry-settled : (e : Entry) {l : List ℕ} {at r q : ℕ} {l′ m : List ℕ} → Laid l at (entryBytes e) r l′ → Laid l at (entryBytes e) q m → (r ≡ q) × (l′ ≡ m)
-entry-settled e = laid-settled
+pub put-entry-settled : (e : Entry) {l : List ℕ} {at r q : ℕ} {l′ m : List ℕ} → Laid l at (entryBytes e) r l′ → Laid l at (entryBytes e) q m → (r ≡ q) × (l′ ≡ m)
+put-entry-settled e = laid-settled
 
 -- ---------- the writer's transitions
 
@@ -43,7 +39,7 @@ module _ (h : Head) where
   pub exc-start-settled : {r q : HeadMoved} → r ≡ startedHead h → q ≡ startedHead h → r ≡ q
   exc-start-settled = settled
 
-  pub may-check-settled : {r q : ℕ} → r ≡ first (checkTests h) → q ≡ first (checkTests h) → r ≡ q
+  pub may-check-settled : {r q : ℕ} → r ≡ first (excCheckTests h) → q ≡ first (excCheckTests h) → r ≡ q
   may-check-settled = settled
 
   pub exc-check-count-settled : (c : Cell) {r q : HeadMoved} → r ≡ checkedHead h c → q ≡ checkedHead h c → r ≡ q
@@ -60,7 +56,7 @@ module _ (h : Head) where
   pub inside-settled : (k : ℕ) {r q : ℕ} → r ≡ first (insideTests h k) → q ≡ first (insideTests h k) → r ≡ q
   inside-settled k = settled
 
-  pub may-finish-settled : (k : ℕ) {r q : ℕ} → r ≡ first (finishTests h k) → q ≡ first (finishTests h k) → r ≡ q
+  pub may-finish-settled : (k : ℕ) {r q : ℕ} → r ≡ first (sharedFinishTests h k) → q ≡ first (sharedFinishTests h k) → r ≡ q
   may-finish-settled k = settled
 
   module _ (c : Cell) where
@@ -76,4 +72,4 @@ module _ (h : Head) where
 -- ---------- the single step: its answer, and the log
 
 pub single-settled : (s : State) (x : Step) (l : List ℕ) {r q : Answer} {l′ m : List ℕ} → Singled s x l r l′ → Singled s x l q m → (r ≡ q) × (l′ ≡ m)
-single-settled s x l a b = (a .answer ∙ sym (b .answer), a .log ∙ sym (b .log))
+single-settled s x l a b = (settled (a .answer) (b .answer), settled (a .log) (b .log))

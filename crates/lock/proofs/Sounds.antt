@@ -2,7 +2,7 @@
 use Prim.Native.Nat.{ℕ, zero, suc, _+_, _≤_, _<_}
 use mathlib.Core.Path.{_≡_, refl}
 use mathlib.Core.Bool.{Bool, true, false}
-use mathlib.Core.Logic.{inl, inr, _↔_}
+use mathlib.Core.Logic.{inl, inr}
 use mathlib.Core.List.{List}
 use mathlib.Core.Option.{some}
 use native.Mathlib.Omega.{arith}
@@ -10,30 +10,32 @@ use lib.Dec.{ltb}
 use lib.ListN.{length, getD, replicate, length-replicate}
 use borrow.Author.Tests.{ltb-true, ltb-false, lt-ltb, le-ltb}
 use Rattle.rows.proofs.Cases.{on, clash}
-use Rattle.machine.proofs.Multisets.{only-here}
+use Rattle.machine.proofs.Multisets.{only-here, only-other}
 use Rattle.schedule.specs.Limits as limit
-use Rattle.lock.specs.Invariants.{ref-counts-domain, exc-inv, shared-inv-agree, shared-counts-agree, Filter-len, Invariants}
+use Rattle.lock.specs.Source.{Initialize}
+use Rattle.lock.specs.Invariants.{ref-counts-domain, exc-inv, shared-inv-agree, shared-counts-agree, Invariants, New}
 use Rattle.lock.specs.Lock.{zeroCell, freshState, cell}
 use Rattle.lock.specs.Sound.{sound, mustBeClear}
 use Rattle.lock.specs.Refined.{abs, Sound}
 use Rattle.lock.specs.declared.state.Cell.{Cell}
 use Rattle.lock.specs.declared.state.Head.{Head}
 use Rattle.lock.specs.declared.state.State.{State}
-use Rattle.lock.proofs.Filtered.{stands, filter-len, filter-finite}
-use Rattle.lock.proofs.Upheld.{neither}
-use Rattle.lock.proofs.Phases.{checkingHead, head, Phase, away, checking, taken, unused-record, unused-cursor}
-use Rattle.lock.proofs.Plain.{PlainCell, PlainCells, Plain, zero-plain, test-plain, plain-test}
+use Rattle.lock.proofs.Filtered.{stands, carrying-none, Carry, counted, agreeing}
+use Rattle.lock.proofs.Upheld.{neither, same-readers}
+use Rattle.lock.proofs.Phases.{checkingHead, head, Phase, away, checking, holding, unused-record, unused-cursor}
+use Rattle.lock.proofs.Plain.{PlainCell, PlainCells, guards, Plain, zero-plain, test-plain, plain-test}
 
 -- a state by its head and its cells: a claim by the phases of the writer is one about every state
 abbrev pub state : Head → List Cell → State
 state h cs = record { head = h; cells = cs }
 
+-- the guards carry the record in the head
+pub all-carry : (s : State) → Carry (abs s) (s .head .t)
+all-carry s r u n = only-other (s .head .t) (cell s r .guards) u n
+
 -- ---------- what is plain has the source's invariants
 
 module _ (cs : List Cell) where
-  abbrev guards : ℕ → ℕ
-  guards r = getD cs r zeroCell .guards
-
   exc-holds : {h : Head} → Phase h → PlainCells h cs → exc-inv (abs (state h cs))
   exc-holds (away t w) p =
       record {
@@ -43,7 +45,7 @@ module _ (cs : List Cell) where
         unguarded = λ e. tt;
         pending = λ k e. clash (cc);
       }
-  exc-holds (taken w) p =
+  exc-holds (holding w) p =
       record { locked = λ e. inr tt; unlocked = λ o. refl; stored = λ x. absurd x; unguarded = λ e. clash (cc); pending = λ k e. clash (cc) }
   exc-holds (checking t w c l) p =
       record {
@@ -56,13 +58,13 @@ module _ (cs : List Cell) where
     where
       unchecked : (r u : ℕ) → 0 < abs (state (checkingHead t w c) cs) .shared-guard (r, u) → c ≤ r
       unchecked r u g = on (ltb r c)
-          (λ b. absurd (omega (arith, stands t guards r u g .1, p r .clear b)))
+          (λ b. absurd (omega (arith, stands t (guards cs) r u g .1, p r .clear b)))
           (λ b. ltb-false r c b)
 
   agree-holds : {h : Head} → Phase h → PlainCells h cs → shared-inv-agree (abs (state h cs))
-  agree-holds (away t w) p r u g = rw (stands t guards r u g .0)
-  agree-holds (checking t w c l) p r u g = rw (stands t guards r u g .0)
-  agree-holds (taken w) p r u g = absurd (omega (arith, stands 0 guards r u g .1, p r .clear refl))
+  agree-holds (away t w) p r u g = rw (stands t (guards cs) r u g .0)
+  agree-holds (checking t w c l) p r u g = rw (stands t (guards cs) r u g .0)
+  agree-holds (holding w) p r u g = absurd (omega (arith, stands 0 (guards cs) r u g .1, p r .clear refl))
 
 module _ (s : State) (p : Plain s) where
   -- who is pending at a cell, or has a guard there, is at a cell in use
@@ -80,14 +82,10 @@ module _ (s : State) (p : Plain s) where
       }
 
   counts-hold : shared-counts-agree (abs s)
-  counts-hold = record { agree = agree; finite = λ r. (cell s r .guards, filter-finite (s .head .t) (guards (s .cells)) r) }
-    where
-      agree : (r : ℕ) → r < s .head .width → (rc n : ℕ) → abs s .ref-counts r ≡ some rc → Filter-len (abs s .shared-guard) r n
-          → rc ≡ cell s r .pending + n
-      agree r l rc n e f =
-          let q : some (cell s r .count) ≡ some rc = rw (lt-ltb r (s .head .width) l) at e in
-          let c : cell s r .count ≡ rc = cc in
-          omega (arith, p .cells r .counted, filter-len (s .head .t) (guards (s .cells)) r n f)
+  counts-hold = agreeing (abs s) (s .head .t) (all-carry s) (λ r l rc e.
+      let q : some (cell s r .count) ≡ some rc = rw (lt-ltb r (s .head .width) l) at e in
+      let c : cell s r .count ≡ rc = cc in
+      omega (arith, p .cells r .counted, only-here (s .head .t) (cell s r .guards)))
 
   pub plain-sound : Sound s
   plain-sound = record {
@@ -111,33 +109,33 @@ module _ (s : State) (p : Plain s) where
 
 module _ (cs : List Cell) where
   -- where the writer is, by what exc_inv says of its four flags
-  phase-told : (guard pending stored locked : Bool) (t w c : ℕ) → let h = head guard pending stored locked t w c in
+  phase-means : (guard pending stored locked : Bool) (t w c : ℕ) → let h = head guard pending stored locked t w c in
       exc-inv (abs (state h cs)) → (stored ≡ false → t ≡ 0) → (pending ≡ false → c ≡ 0) → Phase h
-  phase-told true true stored locked t w c i zt zc = let e = i .pending c refl .1 in clash (cc)
-  phase-told true false true locked t w c i zt zc = let e = i .stored tt in clash (cc)
-  phase-told true false false locked t w c i zt zc = rw (zt refl, zc refl, i .unlocked (inr tt)) (taken w)
-  phase-told false pending false locked t w c i zt zc = absurd (i .unguarded refl)
-  phase-told false true true locked t w c i zt zc = rw (i .unlocked (inl tt)) (checking t w c (i .pending c refl .0))
-  phase-told false false true true t w c i zt zc = neither (i .locked refl)
-  phase-told false false true false t w c i zt zc = rw (zc refl) (away t w)
+  phase-means true true stored locked t w c i zt zc = let e = i .pending c refl .1 in clash (cc)
+  phase-means true false true locked t w c i zt zc = let e = i .stored tt in clash (cc)
+  phase-means true false false locked t w c i zt zc = rw (zt refl, zc refl, i .unlocked (inr tt)) (holding w)
+  phase-means false pending false locked t w c i zt zc = absurd (i .unguarded refl)
+  phase-means false true true locked t w c i zt zc = rw (i .unlocked (inl tt)) (checking t w c (i .pending c refl .0))
+  phase-means false false true true t w c i zt zc = neither (i .locked refl)
+  phase-means false false true false t w c i zt zc = rw (zc refl) (away t w)
 
   -- no guard where it has checked: exc_inv says so while it checks, and while it holds the guard there is no record that a guard could carry
-  clear-told : {h : Head} → Phase h → Invariants (abs (state h cs)) → (r : ℕ) → mustBeClear h r ≡ true → guards cs r ≡ 0
-  clear-told (away t w) i r m = clash (cc)
-  clear-told (checking t w c l) i r m =
+  clear-means : {h : Head} → Phase h → Invariants (abs (state h cs)) → (r : ℕ) → mustBeClear h r ≡ true → guards cs r ≡ 0
+  clear-means (away t w) i r m = clash (cc)
+  clear-means (checking t w c l) i r m =
       let n : ¬ (0 < guards cs r) = λ g. omega (arith, ltb-true r c m, i .exc .pending c refl .2 r t (rw (only-here t (guards cs r)) g)) in
       omega arith
-  clear-told (taken w) i r m = let n : ¬ (0 < guards cs r) = λ g. let e = i .agree r 0 g in clash (cc) in omega arith
+  clear-means (holding w) i r m = let n : ¬ (0 < guards cs r) = λ g. let e = i .agree r 0 g in clash (cc) in omega arith
 
 module _ (s : State) (k : Sound s) where
-  told-phase : Phase (s .head)
-  told-phase =
+  sound-phase : Phase (s .head)
+  sound-phase =
       let h = s .head in
-      phase-told (s .cells) (h .guard) (h .pending) (h .stored) (h .locked) (h .t) (h .width) (h .cursor) (k .inv .exc)
+      phase-means (s .cells) (h .guard) (h .pending) (h .stored) (h .locked) (h .t) (h .width) (h .cursor) (k .inv .exc)
       (k .unused-record) (k .unused-cursor)
 
-  told-cell : (r : ℕ) → PlainCell (s .head) r (cell s r)
-  told-cell r = on (ltb r (s .head .width))
+  sound-cell : (r : ℕ) → PlainCell (s .head) r (cell s r)
+  sound-cell r = on (ltb r (s .head .width))
       (λ b. in-use (ltb-true r (s .head .width) b))
       (λ b. rw (k .unused-cells r (ltb-false r (s .head .width) b)) (zero-plain (s .head) r))
     where
@@ -145,25 +143,22 @@ module _ (s : State) (k : Sound s) where
       in-use l = record {
         small = k .counts r;
         counted =
-            k .inv .counts .agree r l (cell s r .count) (cell s r .guards) (rw (lt-ltb r (s .head .width) l))
-            (filter-finite (s .head .t) (guards (s .cells)) r);
+            let c = counted (abs s) (s .head .t) (all-carry s) (k .inv .counts) r l (cell s r .count) (rw (lt-ltb r (s .head .width) l)) in
+            omega (arith, only-here (s .head .t) (cell s r .guards));
         unused = λ u. absurd (omega arith);
-        clear = clear-told (s .cells) told-phase (k .inv) r;
+        clear = clear-means (s .cells) sound-phase (k .inv) r;
       }
 
   pub sound-plain : Plain s
-  sound-plain = record { whole = k .whole; low = k .inv .domain .positive; high = k .width; phase = told-phase; cells = told-cell }
+  sound-plain = record { whole = k .whole; low = k .inv .domain .positive; high = k .width; phase = sound-phase; cells = sound-cell }
 
 -- ---------- the test is the record, where the row is whole
 
-pub sound-told : (s : State) → length (s .cells) ≡ limit.width → sound s ≡ true → Sound s
-sound-told s whole e = plain-sound s (test-plain s whole e)
+pub sound-means : (s : State) → length (s .cells) ≡ limit.width → sound s ≡ true → Sound s
+sound-means s whole e = plain-sound s (test-plain s e whole)
 
-pub told-sound : (s : State) → Sound s → sound s ≡ true
-told-sound s k = plain-test s (sound-plain s k)
-
-pub sound-iff : (s : State) → length (s .cells) ≡ limit.width → (sound s ≡ true) ↔ Sound s
-sound-iff s whole = (sound-told s whole, told-sound s)
+pub means-sound : (s : State) → Sound s → sound s ≡ true
+means-sound s k = plain-test s (sound-plain s k)
 
 -- ---------- a fresh lock
 
@@ -183,3 +178,18 @@ fresh-plain w t low high = record {
 
 pub fresh-sound : (w t : ℕ) → 1 ≤ w → w ≤ limit.width → sound (freshState w t) ≡ true
 fresh-sound w t low high = plain-test (freshState w t) (fresh-plain w t low high)
+
+-- it is the source's, of the width and with the record that were asked for
+module _ (w t : ℕ) (low : 1 ≤ w) (high : w ≤ limit.width) where
+  pub fresh-initialize : Initialize w t (abs (freshState w t))
+  fresh-initialize =
+      record {
+        require = low;
+        init = same-readers (abs (freshState w t))
+            (λ i. rw (zero-at limit.width i))
+            (λ r. rw (zero-at limit.width r))
+            (λ v. carrying-none t (guards (freshState w t .cells)) (v .0) (v .1) (rw (zero-at limit.width (v .0))));
+      }
+
+  pub fresh-new : New w t (abs (freshState w t))
+  fresh-new = record { width = refl; cells = λ i l. rw (lt-ltb i w l, zero-at limit.width i); unlocked = refl; stored = refl }

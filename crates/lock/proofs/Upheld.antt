@@ -1,17 +1,18 @@
--- What the source's invariants say where the writer is known, and how a cell's guards are counted where all carry one record. Assumes nothing.
-use Prim.Native.Nat.{ℕ, _+_, _<_}
-use mathlib.Core.Path.{_≡_, refl, _∙_}
+-- The source by itself: when two of its states are equal, which record the guards carry, and what the invariants say where the writer is known.
+-- Assumes nothing.
+use Prim.Native.Nat.{ℕ, _<_}
+use mathlib.Core.Path.{_≡_, refl}
 use mathlib.Core.Bool.{false}
 use mathlib.Core.Logic.{_⊎_, inl, inr, ⊎-elim}
-use mathlib.Core.List.{[], _∷_}
 use mathlib.Core.Option.{Option, none, some, Option·getD}
 use native.Mathlib.Omega.{arith}
-use lib.Dec.{eqb, ltb}
-use borrow.Author.Tests.{eqb-true, eqb-false, ltb-true, ltb-false}
+use lib.Dec.{ltb}
+use borrow.Author.Tests.{ltb-true, ltb-false}
 use Rattle.rows.proofs.Cases.{on, clash}
-use Rattle.lock.specs.Source.{DistRwLock}
-use Rattle.lock.specs.Invariants.{Is-some, shared-counts-agree, Filter-len, Invariants}
-use Rattle.lock.proofs.Filtered.{sum-once}
+use Rattle.machine.specs.Multiset.{Multiset}
+use Rattle.lock.specs.Source.{DistRwLock, with-readers}
+use Rattle.lock.specs.Invariants.{Is-some, Invariants}
+use Rattle.lock.proofs.Filtered.{Carry}
 
 -- ---------- options, and two things of which neither is
 
@@ -32,33 +33,16 @@ neither o = absurd (⊎-elim (λ x. x) (λ x. x) o)
 pub getD-some : (o : Option ℕ) (t : ℕ) → o ≡ some t → Option·getD o 0 ≡ t
 getD-some o t e = rw e
 
--- ---------- the count of a cell's guards, where all carry one record
+-- ---------- two states of the source
 
-module _ (m : DistRwLock) (t : ℕ) where
-  abbrev pub Carry : Type 0
-  Carry = (r u : ℕ) → (u ≡ t → ⊥) → m .shared-guard (r, u) ≡ 0
+-- they are equal where they differ at most in maps and multisets, and these are equal at each place
+pub same-readers : (m : DistRwLock) {f f′ : ℕ → Option ℕ} {p p′ : Multiset ℕ} {g g′ : Multiset (ℕ × ℕ)}
+    → ((i : ℕ) → f i ≡ f′ i) → ((r : ℕ) → p r ≡ p′ r) → ((v : ℕ × ℕ) → g v ≡ g′ v) → with-readers m f p g ≡ with-readers m f′ p′ g′
+same-readers m a b c = λ i. with-readers m (λ k. a k i) (λ r. b r i) (λ v. c v i)
 
-  -- each count is that of the pending readers and of the guards that carry t
-  abbrev pub Counted : Type 0
-  Counted = (r : ℕ) → r < m .rc-width → (rc : ℕ) → m .ref-counts r ≡ some rc → rc ≡ m .shared-pending r + m .shared-guard (r, t)
+-- ---------- the record that the guards carry
 
-  pub filtered : Carry → (r n : ℕ) → Filter-len (m .shared-guard) r n → n ≡ m .shared-guard (r, t)
-  filtered c r n f = f .len ∙ sum-once (λ u. m .shared-guard (r, u)) t (c r) (f .records) (f .once) (f .all t)
-
-  pub counted : Carry → shared-counts-agree m → Counted
-  counted c a r l rc e = let f = a .finite r in omega (arith, a .agree r l rc (f .0) e (f .1), filtered c r (f .0) (f .1))
-
-  pub agreeing : Carry → Counted → shared-counts-agree m
-  agreeing c a =
-      record {
-        agree = λ r l rc n e f. omega (arith, a r l rc e, filtered c r n f);
-        finite = λ r. (m .shared-guard (r, t), record { records = t ∷ []; once = ((λ o. o), tt); all = λ u g. inl (alone r u g); len = omega arith });
-      }
-    where
-      alone : (r u : ℕ) → 0 < m .shared-guard (r, u) → u ≡ t
-      alone r u g = on (eqb u t) (λ b. eqb-true u t b) (λ b. absurd (omega (arith, c r u (eqb-false u t b))))
-
--- they carry the record in store
+-- it is the one in store
 pub carried : (m : DistRwLock) (t : ℕ) → Invariants m → m .storage ≡ some t → Carry m t
 carried m t i e r u n = let g : ¬ (0 < m .shared-guard (r, u)) = λ g. n (let q = i .agree r u g in cc) in omega arith
 

@@ -4,14 +4,20 @@ use mathlib.Core.List.{List, [], _∷_, _++_}
 use Prim.Native.Nat.{ℕ, _+_, _-_, _*_, _≤_, _<_}
 use native.Mathlib.Omega.{arith}
 use mir.Val.{boolByte}
-use lib.ListN.{length, getD, set, take, length-set, length-append}
+use borrow.Author.Tests.{ltb-true}
+use lib.Dec.{ltb}
+use lib.ListN.{length, getD, set, take, length-set, length-append, length-take}
 use Rattle.rows.specs.Bytes.{big}
 use Rattle.rows.specs.Stores.{Laid}
 use Rattle.rows.specs.Walk.{pieces}
+use Rattle.rows.proofs.Cases.{on}
+use Rattle.rows.proofs.Walks.{pieces-even}
 use Rattle.rows.proofs.Stores.{whole-laid, laid-whole, none-laid, laid-then, laid-length, stores-then}
 use Rattle.rows.proofs.Laying.{Laying, pieces-long, laying-more}
 use Rattle.schedule.specs.Limits as limit
-use Rattle.lock.specs.Lock.{zeroCell}
+use Rattle.schedule.specs.declared.steps.LockStep.{LockStep}
+use Rattle.schedule.specs.declared.steps.LockStep.the-variants.{ExcStart, ExcCheckCount, ExcFinish, ExcRelease, SharedStart, SharedFinish, SharedRelease}
+use Rattle.lock.specs.Lock.{zeroCell, logs}
 use Rattle.lock.specs.Image.{entryBytes, headBytes, cellBytes, inUse, imageBytes}
 use Rattle.lock.specs.declared.state.Cell.{Cell}
 use Rattle.lock.specs.declared.state.Head.{Head}
@@ -42,12 +48,23 @@ module _ (l : List ℕ) (i j a b p r : ℕ) (bs l′ : List ℕ) where
 pub entry-laid : (e e′ : Entry) (l : List ℕ) (at r : ℕ) (l′ : List ℕ) → e ≡ e′ → Laid l at (entryBytes e′) r l′ → Laid l at (entryBytes e) r l′
 entry-laid e e′ l at r l′ p k = rw p k
 
+-- a step logs one entry at most
+pub logs-short : (s : State) (x : LockStep) → length (pieces entryBytes (logs s x)) ≤ limit.entry
+logs-short s ExcStart = omega arith
+logs-short s ExcCheckCount = omega arith
+logs-short s ExcFinish = omega arith
+logs-short s (ExcRelease t) = omega arith
+logs-short s (SharedStart r) = omega arith
+logs-short s (SharedFinish r) = omega arith
+logs-short s (SharedRelease r t) = omega arith
+
 -- ---------- the head
 
 module _ (h : Head) (l : List ℕ) where
   -- its front, its rest, and both
-  pub store-laid : length (boolByte (h .locked) ∷ boolByte (h .stored) ∷ big 4 (h .t)) ≤ length l → (a b c : ℕ) (k m n : List ℕ) → Laid l 0 (boolByte (h .locked) ∷ []) a k
-      → Laid k a (boolByte (h .stored) ∷ []) b m → Laid m b (big 4 (h .t)) c n → Laid l 0 (boolByte (h .locked) ∷ boolByte (h .stored) ∷ big 4 (h .t)) c n
+  pub store-laid : length (boolByte (h .locked) ∷ boolByte (h .stored) ∷ big 4 (h .t)) ≤ length l → (a b c : ℕ) (k m n : List ℕ)
+      → Laid l 0 (boolByte (h .locked) ∷ []) a k → Laid k a (boolByte (h .stored) ∷ []) b m → Laid m b (big 4 (h .t)) c n
+      → Laid l 0 (boolByte (h .locked) ∷ boolByte (h .stored) ∷ big 4 (h .t)) c n
   store-laid s a b c k m n x y z =
       let locked = boolByte (h .locked) ∷ [] in
       let stored = boolByte (h .stored) ∷ [] in
@@ -105,3 +122,15 @@ module _ (s : State) (l : List ℕ) (n : ℕ) (used : n ≡ inUse (s .head .widt
     image-laid r l′ d =
         let i = image-length in
         laid-then l 0 (headBytes (s .head)) (pieces cellBytes (take (inUse (s .head .width)) (s .cells))) a k r l′ (omega arith) head (rw (← used) d)
+
+-- the image of any state fits: no more cells than the row has are in use
+few : (width : ℕ) → inUse width ≤ limit.width
+few width = on (ltb width limit.width) (λ b. rw b (omega (arith, ltb-true width limit.width b))) (λ b. rw b (omega arith))
+
+pub image-small : (s : State) → length (imageBytes s) ≤ limit.image
+image-small s =
+    let cells = take (inUse (s .head .width)) (s .cells) in
+    let long : length cells ≤ limit.width = simp length-take (omega (arith, few (s .head .width))) in
+    let bytes : length (pieces cellBytes cells) ≡ length cells * 3 = pieces-even cellBytes 3 (λ c. refl) cells in
+    let both = length-append (headBytes (s .head)) (pieces cellBytes cells) in
+    omega arith

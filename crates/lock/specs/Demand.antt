@@ -67,11 +67,11 @@ withdraws (Granted q u) = false
 -- ---------- what a history says
 
 -- accepted shared_starts at r, accepted shared_releases at r
-abbrev pub starts : Hist → ℕ → ℕ
-starts h r = did# (startsAt r) h
+abbrev pub sharedStarts : Hist → ℕ → ℕ
+sharedStarts h r = did# (startsAt r) h
 
-abbrev pub releases : Hist → ℕ → ℕ
-releases h r = did# (releasesAt r) h
+abbrev pub sharedReleases : Hist → ℕ → ℕ
+sharedReleases h r = did# (releasesAt r) h
 
 -- guards of readers at r that carry t: handed out, given back
 abbrev pub handedOut : Hist → ℕ → ℕ → ℕ
@@ -126,4 +126,5 @@ Demanded = (w t₀ : ℕ) → 1 ≤ w → w ≤ limit.width → (h : Hist) (s : 
 
 -- in every prefix a cell equals its accepted shared_starts less its accepted shared_releases
 abbrev pub CellsCounted : Type 0
-CellsCounted = (w t₀ : ℕ) → 1 ≤ w → w ≤ limit.width → (h : Hist) (s : State) → Run lock (freshState w t₀) h s → (r : ℕ) → cell s r .count + releases h r ≡ starts h r
+CellsCounted = (w t₀ : ℕ) → 1 ≤ w → w ≤ limit.width → (h : Hist) (s : State) → Run lock (freshState w t₀) h s
+    → (r : ℕ) → cell s r .count + sharedReleases h r ≡ sharedStarts h r

@@ -65,9 +65,9 @@ pub record Invariants (m : DistRwLock) : Type 0 where
   pub agree : shared-inv-agree m
   pub counts : shared-counts-agree m
 
--- do_guard: a guard's value is the stored one
+-- do_guard: a guard's value is the stored one. The source states this property beside the invariant that says the same
 abbrev pub do-guard : DistRwLock → Type 0
-do-guard m = (r t : ℕ) → 0 < m .shared-guard (r, t) → m .storage ≡ some t
+do-guard m = shared-inv-agree m
 
 -- RwLock::new promises `wf()`: as many cells as the width, each with its own index and the count 0. The source ties neither width nor t to the
 -- arguments; here both are

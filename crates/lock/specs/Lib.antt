@@ -1,10 +1,10 @@
-pub mod Lock
-pub mod Moved
-pub mod Image
-pub mod Sound
-pub mod Single
 pub mod Source
 pub mod Invariants
+pub mod Lock
+pub mod Moved
+pub mod Sound
+pub mod Image
+pub mod Single
 pub mod Refined
 pub mod Demand
 pub mod Cases

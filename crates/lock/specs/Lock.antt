@@ -7,7 +7,7 @@ use lib.Dec.{eqb, ltb}
 use lib.ListN.{getD, set, replicate}
 use Rattle.machine.specs.Check.{Check, need, rises}
 use Rattle.machine.specs.Machine.{Machine}
-use Rattle.schedule.specs.Codes as code
+use Rattle.machine.specs.Codes as code
 use Rattle.schedule.specs.Limits as limit
 use Rattle.schedule.specs.declared.steps.LockStep.{LockStep}
 use Rattle.schedule.specs.declared.steps.LockStep.the-variants.{ExcStart, ExcCheckCount, ExcFinish, ExcRelease, SharedStart, SharedFinish, SharedRelease}
@@ -44,44 +44,49 @@ freshOf width t =
 abbrev pub cell : State → ℕ → Cell
 cell s r = getD (s .cells) r zeroCell
 
-abbrev pub startTests : Head → List Check
-startTests h = need code.phase (not (h .locked)) ∷ []
+-- the writer's steps, on the head
+abbrev pub excStartTests : Head → List Check
+excStartTests h = need code.phase (not (h .locked)) ∷ []
 
-abbrev pub checkTests : Head → List Check
-checkTests h = need code.phase (h .pending) ∷ need code.cursor (ltb (h .cursor) (h .width)) ∷ []
+abbrev pub excCheckTests : Head → List Check
+excCheckTests h = need code.phase (h .pending) ∷ need code.cursor (ltb (h .cursor) (h .width)) ∷ []
 
 abbrev pub excFinishTests : Head → List Check
 excFinishTests h = need code.phase (h .pending) ∷ need code.cursor (eqb (h .cursor) (h .width)) ∷ []
 
-abbrev pub releaseTests : Head → List Check
-releaseTests h = need code.phase (h .guard) ∷ []
+abbrev pub excReleaseTests : Head → List Check
+excReleaseTests h = need code.phase (h .guard) ∷ []
 
+-- shared_start and shared_release ask for no more of the head: the lock test stands at shared_finish
 abbrev pub insideTests : Head → ℕ → List Check
 insideTests h r = need code.outside (ltb r (h .width)) ∷ []
 
-abbrev pub finishTests : Head → ℕ → List Check
-finishTests h r = need code.outside (ltb r (h .width)) ∷ need code.phase (not (h .locked)) ∷ []
+abbrev pub sharedFinishTests : Head → ℕ → List Check
+sharedFinishTests h r = need code.outside (ltb r (h .width)) ∷ need code.phase (not (h .locked)) ∷ []
 
+-- exc_check_count, of the cell at the cursor
 abbrev pub emptyTests : Cell → List Check
 emptyTests c = need code.count (eqb (c .count) 0) ∷ []
 
+-- shared_start, of its cell
 abbrev pub roomTests : Cell → List Check
 roomTests c = need code.full (ltb (c .count) limit.counter) ∷ []
 
+-- shared_finish, of its cell
 abbrev pub pendingTests : Cell → List Check
 pendingTests c = need code.missing (ltb 0 (c .pending)) ∷ []
 
--- that very guard: one stands at the cell, and guards carry the record in store
+-- shared_release, of its cell, that very guard: one stands there, and guards carry the record in store
 abbrev pub guardTests : Head → Cell → ℕ → List Check
 guardTests h c t = need code.missing (ltb 0 (c .guards)) ∷ need code.missing (h .stored) ∷ need code.missing (eqb t (h .t)) ∷ []
 
 abbrev pub headTests : State → LockStep → List Check
-headTests s ExcStart = startTests (s .head)
-headTests s ExcCheckCount = checkTests (s .head)
+headTests s ExcStart = excStartTests (s .head)
+headTests s ExcCheckCount = excCheckTests (s .head)
 headTests s ExcFinish = excFinishTests (s .head)
-headTests s (ExcRelease t) = releaseTests (s .head)
+headTests s (ExcRelease t) = excReleaseTests (s .head)
 headTests s (SharedStart r) = insideTests (s .head) r
-headTests s (SharedFinish r) = finishTests (s .head) r
+headTests s (SharedFinish r) = sharedFinishTests (s .head) r
 headTests s (SharedRelease r t) = insideTests (s .head) r
 
 abbrev pub cellTests : State → LockStep → List Check
@@ -104,35 +109,37 @@ withHead s h = record { head = h; cells = s .cells }
 abbrev pub withCell : State → ℕ → Cell → State
 withCell s r c = record { head = s .head; cells = set (s .cells) r c }
 
-abbrev pub starting : Head → Head
-starting h = record { t = h .t; width = h .width; cursor = 0; locked = true; stored = h .stored; pending = true; guard = h .guard }
+-- the head after each of the writer's steps
+abbrev pub excStarted : Head → Head
+excStarted h = record { t = h .t; width = h .width; cursor = 0; locked = true; stored = h .stored; pending = true; guard = h .guard }
 
-abbrev pub checking : Head → Head
-checking h = record { t = h .t; width = h .width; cursor = h .cursor + 1; locked = h .locked; stored = h .stored; pending = h .pending; guard = h .guard }
+abbrev pub excChecked : Head → Head
+excChecked h = record { t = h .t; width = h .width; cursor = h .cursor + 1; locked = h .locked; stored = h .stored; pending = h .pending; guard = h .guard }
 
-abbrev pub taking : Head → Head
-taking h = record { t = 0; width = h .width; cursor = 0; locked = h .locked; stored = false; pending = false; guard = true }
+abbrev pub excFinished : Head → Head
+excFinished h = record { t = 0; width = h .width; cursor = 0; locked = h .locked; stored = false; pending = false; guard = true }
 
-abbrev pub storing : Head → ℕ → Head
-storing h t = record { t = t; width = h .width; cursor = h .cursor; locked = false; stored = true; pending = h .pending; guard = false }
+abbrev pub excReleased : Head → ℕ → Head
+excReleased h t = record { t = t; width = h .width; cursor = h .cursor; locked = false; stored = true; pending = h .pending; guard = false }
 
-abbrev pub announced : Cell → Cell
-announced c = record { count = c .count + 1; pending = c .pending + 1; guards = c .guards }
+-- the cell after each of the readers' steps
+abbrev pub sharedStarted : Cell → Cell
+sharedStarted c = record { count = c .count + 1; pending = c .pending + 1; guards = c .guards }
 
-abbrev pub granted : Cell → Cell
-granted c = record { count = c .count; pending = c .pending - 1; guards = c .guards + 1 }
+abbrev pub sharedFinished : Cell → Cell
+sharedFinished c = record { count = c .count; pending = c .pending - 1; guards = c .guards + 1 }
 
-abbrev pub released : Cell → Cell
-released c = record { count = c .count - 1; pending = c .pending; guards = c .guards - 1 }
+abbrev pub sharedReleased : Cell → Cell
+sharedReleased c = record { count = c .count - 1; pending = c .pending; guards = c .guards - 1 }
 
 abbrev pub next : State → LockStep → State
-next s ExcStart = withHead s (starting (s .head))
-next s ExcCheckCount = withHead s (checking (s .head))
-next s ExcFinish = withHead s (taking (s .head))
-next s (ExcRelease t) = withHead s (storing (s .head) t)
-next s (SharedStart r) = withCell s r (announced (cell s r))
-next s (SharedFinish r) = withCell s r (granted (cell s r))
-next s (SharedRelease r t) = withCell s r (released (cell s r))
+next s ExcStart = withHead s (excStarted (s .head))
+next s ExcCheckCount = withHead s (excChecked (s .head))
+next s ExcFinish = withHead s (excFinished (s .head))
+next s (ExcRelease t) = withHead s (excReleased (s .head) t)
+next s (SharedStart r) = withCell s r (sharedStarted (cell s r))
+next s (SharedFinish r) = withCell s r (sharedFinished (cell s r))
+next s (SharedRelease r t) = withCell s r (sharedReleased (cell s r))
 
 -- exc_finish logs the withdrawn record, shared_finish r and the record
 abbrev pub logs : State → LockStep → List Entry

@@ -6,7 +6,7 @@ use mathlib.Core.List.{List, [], _∷_}
 use mathlib.Core.Option.{none, some}
 use lib.Dec.{eqb, ltb}
 use lib.ListN.{length}
-use Rattle.machine.specs.Machine.{Accepted}
+use Rattle.machine.specs.Sourced.{Sourced, Upholds}
 use Rattle.schedule.specs.Limits as limit
 use Rattle.schedule.specs.declared.steps.LockStep.{LockStep}
 use Rattle.schedule.specs.declared.steps.LockStep.the-variants.{ExcStart, ExcCheckCount, ExcFinish, ExcRelease, SharedStart, SharedFinish, SharedRelease}
@@ -66,11 +66,6 @@ AtLimit s (SharedStart r) = cell s r .count ≡ limit.counter
 AtLimit s (SharedFinish r) = ⊥
 AtLimit s (SharedRelease r t) = ⊥
 
-pub record Enabled (s : State) (x : LockStep) : Type 0 where
-  pub to : DistRwLock
-  pub moves : Moves (abs s) (label x) to
-  pub below : AtLimit s x → ⊥
-
 -- what the source hands out: exc_finish the record that it withdraws, shared_finish a guard with the record in store
 abbrev pub HandsOut : DistRwLock → Transition → List Entry → Type 0
 HandsOut pre source.exc-start es = es ≡ []
@@ -81,6 +76,20 @@ HandsOut pre (source.shared-start r) es = es ≡ []
 HandsOut pre (source.shared-finish r) es = (t : ℕ) × (pre .storage ≡ some t) × (es ≡ Granted r t ∷ [])
 HandsOut pre (source.shared-release val) es = es ≡ []
 
+-- the machine beside dist_rwlock.rs: `Enabled`, `Path` and `Exact` of machine/specs/Sourced.antt are said of it
+abbrev pub distRwLock : Sourced lock
+distRwLock =
+    record {
+      Source = DistRwLock;
+      Transition = Transition;
+      Moves = Moves;
+      Safe = Safe;
+      HandsOut = HandsOut;
+      abs = abs;
+      label = label;
+      AtLimit = AtLimit;
+    }
+
 -- ---------- what is proved
 
 pub record Refines : Type 0 where
@@ -89,18 +98,10 @@ pub record Refines : Type 0 where
   pub fresh-new : (w t : ℕ) → 1 ≤ w → w ≤ limit.width → New w t (abs (freshState w t))
   pub fresh-sound : (w t : ℕ) → 1 ≤ w → w ≤ limit.width → sound (freshState w t) ≡ true
   -- the test is the record, where the row is whole, as every row of the code is
-  pub sound-told : (s : State) → length (s .cells) ≡ limit.width → sound s ≡ true → Sound s
-  pub told-sound : (s : State) → Sound s → sound s ≡ true
-  -- of a sound state: a step is accepted exactly when it is enabled ..
-  pub accepted-enabled : (s : State) (x : LockStep) → Sound s → Accepted lock s x → Enabled s x
-  pub enabled-accepted : (s : State) (x : LockStep) → Sound s → Enabled s x → Accepted lock s x
-  -- .. and then does what the source says: the state after is the source's, and the log is what the source hands out
-  pub accepted-moves : (s : State) (x : LockStep) → Sound s → Accepted lock s x → Moves (abs s) (label x) (abs (next s x))
-  pub accepted-post : (s : State) (x : LockStep) (to : DistRwLock) → Sound s → Accepted lock s x → Moves (abs s) (label x) to → to ≡ abs (next s x)
-  pub accepted-logs : (s : State) (x : LockStep) → Sound s → Accepted lock s x → HandsOut (abs s) (label x) (logs s x)
-  pub accepted-safe : (s : State) (x : LockStep) → Sound s → Accepted lock s x → Safe (abs s) (label x)
-  -- accepted steps keep soundness
-  pub accepted-sound : (s : State) (x : LockStep) → Sound s → Accepted lock s x → Sound (next s x)
+  pub sound-means : (s : State) → length (s .cells) ≡ limit.width → sound s ≡ true → Sound s
+  pub means-sound : (s : State) → Sound s → sound s ≡ true
+  -- of a sound state: a step is accepted exactly when it is enabled, and then does what the source says and leaves a sound state
+  pub upholds : Upholds distRwLock Sound
   -- a guard's value is the stored one, and the guards are a count at the stored record and none elsewhere
   pub guards-stored : (s : State) → Sound s → do-guard (abs s)
   pub guards-counted : (s : State) → Sound s → (r t : ℕ) → (t ≡ s .head .t → ⊥) → abs s .shared-guard (r, t) ≡ 0

@@ -1,19 +1,20 @@
 -- dist_rwlock.rs, DistRwLock<T>, transcribed with numbers for T: its fields, `initialize`, its seven transitions and what they deposit and
--- withdraw, under their own names. The invariants and `do_guard` are in specs/Invariants.antt. A map is a function to options, a multiset a function to counts. A transition
--- is a record with the variables that a `let` binds, a field for each `require`, `have` and for what a `remove` needs, and the state after as one
--- equation. Assumes nothing.
+-- withdraw, under their own names. The invariants and `do_guard` are in specs/Invariants.antt. A map is a function to options, a multiset a
+-- function to counts. A transition is a record with the variables that a `let` binds, a field for each `require`, `have` and for what a `remove`
+-- needs, and the state after as one equation. Assumes nothing.
 use Prim.Native.Nat.{ℕ, _+_, _-_, _≤_, _<_}
 use mathlib.Core.Path.{_≡_}
 use mathlib.Core.Bool.{Bool, true, false, cond, _&&_}
 use mathlib.Core.Option.{Option, none, some, Option·getD}
 use lib.Dec.{eqb, ltb}
+use Rattle.machine.specs.Map.{Map, at-key}
 use Rattle.machine.specs.Multiset.{Multiset, empty, insert, remove}
 
 pub record DistRwLock : Type 0 where
   pub rc-width : ℕ
   pub storage : Option ℕ
   pub exc-locked : Bool
-  pub ref-counts : ℕ → Option ℕ
+  pub ref-counts : Map ℕ
   pub exc-pending : Option ℕ
   pub exc-guard : Option (Unit {0})
   pub shared-pending : Multiset ℕ
@@ -22,10 +23,6 @@ pub record DistRwLock : Type 0 where
 -- two guards are the same: same cell, same record
 abbrev pub same-guard : ℕ × ℕ → ℕ × ℕ → Bool
 same-guard v w = eqb (v .1) (w .1) && eqb (v .0) (w .0)
-
--- a map with the value at one key replaced
-abbrev pub at-key : ℕ → ℕ → (ℕ → Option ℕ) → ℕ → Option ℕ
-at-key r n m = λ i. cond (eqb i r) (some n) (m i)
 
 pub record Initialize (rc-width init-t : ℕ) (post : DistRwLock) : Type 0 where
   pub require : 0 < rc-width
@@ -57,7 +54,7 @@ with-writer pre storage locked pending guard =
       shared-guard = pre .shared-guard;
     }
 
-abbrev pub with-readers : DistRwLock → (ℕ → Option ℕ) → Multiset ℕ → Multiset (ℕ × ℕ) → DistRwLock
+abbrev pub with-readers : DistRwLock → (Map ℕ) → Multiset ℕ → Multiset (ℕ × ℕ) → DistRwLock
 with-readers pre counts pending guard =
     record {
       rc-width = pre .rc-width;

@@ -2,11 +2,11 @@
 // their own: they say whether there is such a cell.
 use super::state::Cell;
 use super::state::Head;
-use schedule::codes;
+use machine::codes;
 use schedule::limits;
 ghost use mathlib.Core.Path.{_≡_};
 ghost use Rattle.machine.specs.Check.{first};
-ghost use Rattle.lock.specs.Lock.{insideTests, finishTests};
+ghost use Rattle.lock.specs.Lock.{insideTests, sharedFinishTests};
 ghost use Rattle.lock.specs.Moved.{startedCell, finishedCell, releasedCell};
 
 pub struct CellMoved {
@@ -26,7 +26,7 @@ pub fn inside(h: Head, r: u8) -> u8
 
 // The tests of shared_finish on the head: the lock test stands here, and not at shared_start.
 pub fn may_finish(h: Head, r: u8) -> u8
-    ensures { λ c. ⌜ c ≡ first (finishTests h r) ⌝ }
+    ensures { λ c. ⌜ c ≡ first (sharedFinishTests h r) ⌝ }
 {
     if r < h.width {
         if h.locked {

@@ -7,7 +7,7 @@ use super::sound;
 use super::state::State;
 use super::writer;
 use super::writer::HeadMoved;
-use schedule::codes;
+use machine::codes;
 use schedule::limits;
 use schedule::steps::LockStep;
 use schedule::steps::Step;
@@ -19,7 +19,7 @@ ghost use Rattle.schedule.specs.Limits as limit;
 ghost use Rattle.schedule.specs.declared.steps.LockStep.the-variants.{ExcStart, ExcCheckCount, ExcFinish, ExcRelease, SharedStart, SharedFinish, SharedRelease};
 ghost use Rattle.lock.specs.Lock.{withHead, withCell};
 ghost use Rattle.lock.specs.Sound as test;
-ghost use Rattle.lock.specs.Single.{Singled, Applied, quietly, told};
+ghost use Rattle.lock.specs.Single.{Singled, Applied, quietly, answer};
 
 // The state after the step, or the state as it was; the place is always 0; the entry's length.
 pub struct Answer {
@@ -55,7 +55,7 @@ fn tested(s: State, x: LockStep, log: &mut [u8]) -> Answer
 
 // An answer that logs nothing.
 fn quiet(s: State, code: u8) -> Answer
-    ensures { λ r. ⌜ r ≡ told s 0 code ⌝ }
+    ensures { λ r. ⌜ r ≡ answer s 0 code ⌝ }
 {
     Answer {
         state: s,
@@ -178,7 +178,7 @@ fn shared_release(s: State, r: u8, t: u32) -> Answer
 // ---- the answer with the moved head or the moved cell, and the entry's length
 
 fn with_head(s: State, m: HeadMoved, logged: usize) -> Answer
-    ensures { λ r. ⌜ r ≡ told (withHead s (m .head)) logged (m .code) ⌝ }
+    ensures { λ r. ⌜ r ≡ answer (withHead s (m .head)) logged (m .code) ⌝ }
 {
     let cells = s.cells;
     let head = m.head;
@@ -192,7 +192,7 @@ fn with_head(s: State, m: HeadMoved, logged: usize) -> Answer
 
 fn with_cell(s: State, i: usize, m: CellMoved, logged: usize) -> Answer
     requires { ⌜ i < limit.width ⌝ }
-    ensures { λ r. ⌜ r ≡ told (withCell s i (m .cell)) logged (m .code) ⌝ }
+    ensures { λ r. ⌜ r ≡ answer (withCell s i (m .cell)) logged (m .code) ⌝ }
 {
     let c = m.cell;
     let mut after = s;

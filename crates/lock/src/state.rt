@@ -1,5 +1,5 @@
 // The state of the shift lock: fresh, and its image.
-use schedule::codes;
+use machine::codes;
 use schedule::limits;
 ghost use mathlib.Core.Path.{_≡_};
 ghost use Prim.Native.Nat.{_+_, _*_, _≤_};

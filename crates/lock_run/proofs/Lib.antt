@@ -1,4 +1,3 @@
-pub mod Arms
+pub mod Carried
 pub mod Turns
-pub mod Whole
 pub mod Settled

@@ -5,24 +5,23 @@ use lock::reader;
 use lock::state;
 use lock::state::State;
 use lock::writer;
+use machine::codes;
 use schedule::answer;
 use schedule::answer::Answer;
-use schedule::codes;
 use schedule::count;
 use schedule::count::Counted;
 use schedule::front;
 use schedule::kinds;
+use schedule::lengths;
 use schedule::limits;
 use schedule::read;
 use schedule::steps::LockStep;
 ghost use lib.ListN.{length};
-ghost use Rattle.schedule.specs.Answers.{Leaves, restFrom};
-ghost use Rattle.schedule.specs.Running.{Counts, Runnable, Ended};
-ghost use Rattle.schedule.specs.Spelling as spelled;
+ghost use Rattle.schedule.specs.Answers.{Leaves};
+ghost use Rattle.schedule.specs.Running.{Counts, Runnable, Ended, restRun};
 ghost use Rattle.schedule.specs.Widths as kind;
-ghost use Rattle.lock.specs.Lock.{lock};
-ghost use Rattle.lock.specs.Image.{entryBytes, imageBytes};
-ghost use Rattle.lock_run.specs.Run.{Good, leftBy, restOfFile};
+ghost use Rattle.lock.specs.Refined.{Sound};
+ghost use Rattle.lock_run.specs.Run.{runner, leftBy, restOfFile};
 
 // What a run leaves: the state after the accepted steps, the index of the step that stopped it or the number of steps, and how far the log is
 // written.
@@ -35,8 +34,8 @@ pub struct Ran {
 
 // The next n steps of a file on a state, their entries into the log from `used` on.
 fn run(file: &[u8], from: usize, n: usize, start: State, log: &mut [u8], used: usize) -> Ran
-    requires { ⌜ Runnable lock spelled.lock Good (now file) from n start used (length (now log)) ⌝ }
-    ensures { λ r. ⌜ Ended lock spelled.lock entryBytes (now (file .entry)) from n start (now (log .entry)) used (leftBy r (now (log .exit))) ⌝ }
+    requires { ⌜ Runnable runner (now file) from n start used (length (now log)) ⌝ }
+    ensures { λ r. ⌜ Ended runner (now (file .entry)) from n start (now (log .entry)) used (leftBy r (now (log .exit))) ⌝ }
 {
     let mut s = start;
     let mut at = from;
@@ -66,7 +65,7 @@ fn run(file: &[u8], from: usize, n: usize, start: State, log: &mut [u8], used: u
                 }
                 let d = m.head;
                 s.head = d;
-                at += 2;
+                at += lengths::TAG;
                 k += 1;
                 continue;
             }
@@ -94,7 +93,7 @@ fn run(file: &[u8], from: usize, n: usize, start: State, log: &mut [u8], used: u
                 }
                 let d = m.head;
                 s.head = d;
-                at += 2;
+                at += lengths::TAG;
                 k += 1;
                 continue;
             }
@@ -112,7 +111,7 @@ fn run(file: &[u8], from: usize, n: usize, start: State, log: &mut [u8], used: u
                 w = entry::put_entry(log, w, Entry::Withdrawn { t: h.t });
                 let d = m.head;
                 s.head = d;
-                at += 2;
+                at += lengths::TAG;
                 k += 1;
                 continue;
             }
@@ -129,7 +128,7 @@ fn run(file: &[u8], from: usize, n: usize, start: State, log: &mut [u8], used: u
                 }
                 let d = m.head;
                 s.head = d;
-                at += 6;
+                at += lengths::TAG_WHAT;
                 k += 1;
                 continue;
             }
@@ -157,7 +156,7 @@ fn run(file: &[u8], from: usize, n: usize, start: State, log: &mut [u8], used: u
                 }
                 let d = m.cell;
                 s.cells[i] = d;
-                at += 3;
+                at += lengths::TAG_WHO;
                 k += 1;
                 continue;
             }
@@ -186,7 +185,7 @@ fn run(file: &[u8], from: usize, n: usize, start: State, log: &mut [u8], used: u
                 w = entry::put_entry(log, w, Entry::Granted { r, t: h.t });
                 let d = m.cell;
                 s.cells[i] = d;
-                at += 3;
+                at += lengths::TAG_WHO;
                 k += 1;
                 continue;
             }
@@ -214,7 +213,7 @@ fn run(file: &[u8], from: usize, n: usize, start: State, log: &mut [u8], used: u
                 }
                 let d = m.cell;
                 s.cells[i] = d;
-                at += 7;
+                at += lengths::TAG_WHO_WHAT;
                 k += 1;
                 continue;
             }
@@ -248,8 +247,8 @@ fn replayed(
     image: &mut [u8],
 ) -> Answer
     requires { ⌜ Counts kind.lock (now file) from n ⌝ }
-    requires { ⌜ Good start ⌝ }
-    ensures { λ r. ⌜ Leaves (restFrom lock spelled.lock entryBytes imageBytes start (now (file .entry)) from (now (log .entry)) (now (image .entry))) r (now (log .exit)) (now (image .exit)) ⌝ }
+    requires { ⌜ Sound start ⌝ }
+    ensures { λ r. ⌜ Leaves (restRun runner start (now (file .entry)) from (now (log .entry)) (now (image .entry))) r (now (log .exit)) (now (image .exit)) ⌝ }
 {
     if log.len() < n * limits::ENTRY {
         return answer::refused(codes::ROOM, 0);

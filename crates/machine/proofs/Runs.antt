@@ -6,7 +6,7 @@ use Prim.Native.Nat.{ℕ, _+_}
 use native.Mathlib.Omega.{arith}
 use Rattle.rows.specs.Walk.{tick}
 use Rattle.machine.specs.Machine.{Machine, Accepted}
-use Rattle.machine.specs.History.{Event, History, event, Run, start, then, in#, did#, logged#, holding, is}
+use Rattle.machine.specs.History.{Event, History, event, Run, start, then, in#, did#, logged#}
 
 -- ---------- THE INDUCTION: what holds of the fresh machine and is kept by each accepted step holds always
 
@@ -48,19 +48,3 @@ module _ {X E : Type 0} where
   pub logged-append : (q : E → Bool) (g h : List (Event X E)) → logged# q (g ++ h) ≡ logged# q g + logged# q h
   logged-append q [] h = omega arith
   logged-append q (e ∷ g) h = ap (in# q (e .wrote)) (logged-append q g h) ∙ in-add q (e .wrote) (logged# q g) (logged# q h)
-
--- ---------- "is x" is true at x, and false at any other
-
-holding-yes : {P : Type 0} (d : Dec P) → P → holding d ≡ true
-holding-yes (yes p) q = refl
-holding-yes (no p) q = absurd (p q)
-
-holding-no : {P : Type 0} (d : Dec P) → ¬ P → holding d ≡ false
-holding-no (yes p) q = absurd (q p)
-holding-no (no p) q = refl
-
-pub is-yes : {A : Type 0} (D : Discrete A) (x y : A) → y ≡ x → is D x y ≡ true
-is-yes D x y e = holding-yes (D y x) e
-
-pub is-no : {A : Type 0} (D : Discrete A) (x y : A) → ¬ (y ≡ x) → is D x y ≡ false
-is-no D x y e = holding-no (D y x) e

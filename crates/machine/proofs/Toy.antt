@@ -1,24 +1,23 @@
 -- The whole scheme on the smallest machine, a row of counters, as an example to copy. Assumes nothing.
 use mathlib.Core.Path.{_≡_, refl}
-use mathlib.Core.Bool.{Bool, true}
+use mathlib.Core.Bool.{Bool, true, false}
 use mathlib.Core.List.{List, [], _∷_}
 use Prim.Native.Nat.{ℕ, zero, suc, _+_, _-_, _≤_}
 use native.Mathlib.Omega.{arith}
 use lib.Dec.{eqb, ltb}
 use lib.ListN.{length, getD, set, replicate}
-use borrow.Author.Tests.{ltb-true, eqb-true, eqb-false}
-use Rattle.rows.proofs.Cases.{on, tick-bit, ℕ-dec}
+use borrow.Author.Tests.{ltb-true}
+use Rattle.rows.proofs.Cases.{tick-bit}
 use Rattle.rows.proofs.Row.{row-up, row-down}
 use Rattle.machine.specs.Check.{Check, need, rises}
 use Rattle.machine.specs.Machine.{Machine, Accepted}
-use Rattle.machine.specs.History.{History, event, Run, did#, logged#, is}
+use Rattle.machine.specs.History.{History, event, Run, did#, logged#}
 use Rattle.machine.specs.Replay.{replay}
-use Rattle.machine.proofs.Runs.{always, is-yes, is-no}
+use Rattle.machine.proofs.Runs.{always}
 
 -- 1. the machine: who enters cell r leaves it later
 data Step : Type 0 where
   enter leave : ℕ → Step
-  deriving Discrete as Step-discrete
 
 data Entry : Type 0 where
   gone : ℕ → Entry
@@ -46,17 +45,16 @@ gate = record { State = List ℕ; Step = Step; Entry = Entry; tests = tests; nex
 abbrev isGone : ℕ → Entry → Bool
 isGone r (gone q) = eqb r q
 
+abbrev enters : ℕ → Step → Bool
+enters r (enter q) = eqb r q
+enters r (leave q) = false
+
 abbrev Demand : History gate → Type 0
-Demand h = (r : ℕ) → logged# (isGone r) h ≤ did# (is (Step-discrete ℕ-dec) (enter r)) h
+Demand h = (r : ℕ) → logged# (isGone r) h ≤ did# (enters r) h
 
 -- 3. the invariant: the state as counts of the history
 abbrev Inv : History gate → List ℕ → Type 0
-Inv h s = (r : ℕ) → logged# (isGone r) h + getD s r 0 ≡ did# (is (Step-discrete ℕ-dec) (enter r)) h
-
-enter-is : (r q : ℕ) → is (Step-discrete ℕ-dec) (enter r) (enter q) ≡ eqb r q
-enter-is r q = on (eqb r q)
-    (λ e. rw e (is-yes (Step-discrete ℕ-dec) (enter r) (enter q) (rw (eqb-true r q e))))
-    (λ e. rw e (is-no (Step-discrete ℕ-dec) (enter r) (enter q) (λ x. eqb-false r q e (cc))))
+Inv h s = (r : ℕ) → logged# (isGone r) h + getD s r 0 ≡ did# (enters r) h
 
 fresh : (n r : ℕ) → _≡_ {A = ℕ} (getD (replicate n 0) r 0) 0
 fresh zero r = refl
@@ -66,7 +64,7 @@ fresh (suc n) (suc r) = fresh n r
 -- 4. each step keeps it
 keep : (h : History gate) (s : List ℕ) (x : Step) → Inv h s → Accepted gate s x → Inv (event gate s x ∷ h) (next s x)
 keep h s (enter r) i p q =
-    rw (enter-is q r, tick-bit (eqb q r)) (omega (arith, row-up (λ c. c) s r q (getD s r 0 + 1) 0 (ltb-true r (length s) (p .0)) refl, i q))
+    rw (tick-bit (eqb q r)) (omega (arith, row-up (λ c. c) s r q (getD s r 0 + 1) 0 (ltb-true r (length s) (p .0)) refl, i q))
 keep h s (leave r) i p q =
     rw (tick-bit (eqb q r)) (omega (arith, row-down (λ c. c) s r q (getD s r 0 - 1) 0 (ltb-true r (length s) (p .0)) (omega (arith, ltb-true, p .1 .0)), i q))
 

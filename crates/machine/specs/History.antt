@@ -45,11 +45,3 @@ module _ {X E : Type 0} where
   abbrev pub logOf : List (Event X E) → List E
   logOf [] = []
   logOf (e ∷ h) = logOf h ++ e .wrote
-
--- "is x": a test of one's own kind, of a type whose equality is decided. Of numbers, ℕ-dec of Rattle.rows.proofs.Cases decides it and computes
-abbrev pub holding : {P : Type 0} → Dec P → Bool
-holding (yes p) = true
-holding (no p) = false
-
-abbrev pub is : {A : Type 0} → Discrete A → A → A → Bool
-is D x y = holding (D y x)

@@ -1,10 +1,13 @@
+pub mod Codes
 pub mod Check
 pub mod Machine
 pub mod History
+pub mod Map
+pub mod Multiset
 pub mod Replay
 pub mod Loop
-pub mod Multiset
+pub mod Rest
 pub mod Single
 pub mod Move
-pub mod Rest
 pub mod Sourced
+pub mod Table

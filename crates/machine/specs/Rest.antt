@@ -6,6 +6,7 @@ use lib.Dec.{ltb}
 use lib.ListN.{length}
 use Rattle.rows.specs.Stores.{over}
 use Rattle.rows.specs.Walk.{pieces}
+use Rattle.machine.specs.Codes as code
 use Rattle.machine.specs.Machine.{Machine}
 use Rattle.machine.specs.Replay.{Replayed, replay}
 
@@ -20,7 +21,7 @@ pub record Rested : Type 0 where
 
 -- codes 1 to 8 write to neither buffer
 abbrev pub untouched : ℕ → ℕ → List ℕ → List ℕ → Rested
-untouched code place log image = record { code = code; place = place; logged = 0; imaged = 0; log = log; image = image }
+untouched c place log image = record { code = c; place = place; logged = 0; imaged = 0; log = log; image = image }
 
 module _ (m : Machine) (bytes : m .Entry → List ℕ) (imageOf : m .State → List ℕ) where
   abbrev pub finished : Replayed m → List ℕ → List ℕ → Rested
@@ -32,6 +33,6 @@ module _ (m : Machine) (bytes : m .Entry → List ℕ) (imageOf : m .State → L
   -- 8 where the log is under `entry` bytes for each step, or the state buffer under `room`
   abbrev pub restOf : ℕ → ℕ → m .State → List (m .Step) → List ℕ → List ℕ → Rested
   restOf entry room s xs log image =
-      cond (ltb (length log) (length xs * entry)) (untouched 8 0 log image)
-      (cond (ltb (length image) room) (untouched 8 0 log image)
+      cond (ltb (length log) (length xs * entry)) (untouched code.room 0 log image)
+      (cond (ltb (length image) room) (untouched code.room 0 log image)
       (finished (replay m s 0 xs) log image))

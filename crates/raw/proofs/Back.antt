@@ -23,7 +23,8 @@ use Rattle.flag.specs.declared.state.State as flag
 use Rattle.flat.specs.declared.state.Client.{Client}
 use Rattle.flat.specs.declared.state.Elem.{Elem}
 use Rattle.flat.specs.declared.state.State as flat
-use Rattle.raw.specs.Raw.{byteAt, rowFrom, countingFrom, countingBytes, cellAt, cellBytes, headBytes, lockFrom, lockBytes, flagFrom, flagBytes, clientAt, clientsFrom, clientBytes, elemAt, elemsFrom, elemBytes, combinerBytes, flatFrom, flatBytes}
+use Rattle.lock.specs.Image.{cellBytes}
+use Rattle.raw.specs.Raw.{byteAt, rowFrom, countingFrom, countingBytes, cellAt, headBytes, lockFrom, lockBytes, flagFrom, flagBytes, clientAt, clientsFrom, clientBytes, elemAt, elemsFrom, elemBytes, combinerBytes, flatFrom, flatBytes}
 use Rattle.raw.proofs.Writes.{clients-length, elems-length}
 
 -- ---------- numbers, bytes and flags in their place

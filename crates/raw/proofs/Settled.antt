@@ -1,18 +1,14 @@
 -- Each public function's promise settles its answer: two answers that meet it are equal. Assumes nothing.
-use mathlib.Core.Path.{_≡_, sym, _∙_}
+use mathlib.Core.Path.{_≡_}
 use mathlib.Core.List.{List}
 use Prim.Native.Nat.{ℕ}
 use Rattle.rows.specs.Stores.{Laid}
-use Rattle.rows.proofs.Settled.{laid-settled}
+use Rattle.rows.proofs.Settled.{settled, laid-settled}
 use Rattle.counting.specs.declared.state.State as counting
 use Rattle.lock.specs.declared.state.State as lock
 use Rattle.flag.specs.declared.state.State as flag
 use Rattle.flat.specs.declared.state.State as flat
 use Rattle.raw.specs.Raw.{countingFrom, countingBytes, lockFrom, lockBytes, flagFrom, flagBytes, flatFrom, flatBytes}
-
--- a promise that names its answer
-settled : {A : Type 0} {r q x : A} → r ≡ x → q ≡ x → r ≡ q
-settled a b = a ∙ sym b
 
 -- ---------- the readers
 

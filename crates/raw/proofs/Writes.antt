@@ -22,7 +22,8 @@ use Rattle.flag.specs.declared.state.State as flag
 use Rattle.flat.specs.declared.state.Client.{Client}
 use Rattle.flat.specs.declared.state.Elem.{Elem}
 use Rattle.flat.specs.declared.state.State as flat
-use Rattle.raw.specs.Raw.{flagsBytes, countingBytes, cellBytes, headBytes, lockBytes, flagBytes, clientBytes, elemBytes, combinerBytes, flatBytes}
+use Rattle.lock.specs.Image.{cellBytes}
+use Rattle.raw.specs.Raw.{flagsBytes, countingBytes, headBytes, lockBytes, flagBytes, clientBytes, elemBytes, combinerBytes, flatBytes, lockLong, flagLong, flatLong}
 
 -- ---------- four writers, one behind the other, where all fit
 
@@ -93,14 +94,14 @@ cell-laid v l at h a b c k m n p q r =
     laid-then l at (v .count ∷ v .pending ∷ []) (v .guards ∷ []) b m c n h two r
 
 module _ (s : lock.State) (long : length (s .cells) ≡ limit.width) where
-  pub lock-length : length (lockBytes s) ≡ 10 + 3 * limit.width
+  pub lock-length : length (lockBytes s) ≡ lockLong
   lock-length = omega (arith, pieces-even cellBytes 3 (λ v. refl) (s .cells), length-append (headBytes (s .head)) (pieces cellBytes (s .cells)))
 
   module _ (l : List ℕ) where
-    pub lock-short : length l < 10 + 3 * limit.width → Laid l 0 (lockBytes s) 0 l
+    pub lock-short : length l < lockLong → Laid l 0 (lockBytes s) 0 l
     lock-short h = none-laid l 0 (lockBytes s) (omega (arith, lock-length))
 
-    module _ (fits : 10 + 3 * limit.width ≤ length l) (a : ℕ) (k : List ℕ) (head : Laid l 0 (headBytes (s .head)) a k) where
+    module _ (fits : lockLong ≤ length l) (a : ℕ) (k : List ℕ) (head : Laid l 0 (headBytes (s .head)) a k) where
       pub cells-room : a + 3 * limit.width ≤ length k
       cells-room =
           let w = laid-whole l 0 (headBytes (s .head)) a k (omega arith) head in
@@ -112,14 +113,14 @@ module _ (s : lock.State) (long : length (s .cells) ≡ limit.width) where
 -- ---------- flag
 
 module _ (s : flag.State) (long : length (s .places) ≡ limit.threads) where
-  pub flag-length : length (flagBytes s) ≡ 3 + limit.threads
+  pub flag-length : length (flagBytes s) ≡ flagLong
   flag-length = omega arith
 
   module _ (l : List ℕ) where
-    pub flag-short : length l < 3 + limit.threads → Laid l 0 (flagBytes s) 0 l
+    pub flag-short : length l < flagLong → Laid l 0 (flagBytes s) 0 l
     flag-short h = none-laid l 0 (flagBytes s) (omega arith)
 
-    pub flag-laid : 3 + limit.threads ≤ length l → (a b c d : ℕ) (k m n o : List ℕ) → Laid l 0 (s .threads ∷ []) a k → Laid k a (s .pending ∷ []) b m
+    pub flag-laid : flagLong ≤ length l → (a b c d : ℕ) (k m n o : List ℕ) → Laid l 0 (s .threads ∷ []) a k → Laid k a (s .pending ∷ []) b m
         → Laid m b (boolByte (s .value) ∷ []) c n → Laid n c (s .places) d o → Laid l 0 (flagBytes s) d o
     flag-laid h a b c d k m n o p q r =
         four-laid l 0 (s .threads ∷ []) (s .pending ∷ []) (boolByte (s .value) ∷ []) (s .places) (omega arith) a b c k m n p q r d o
@@ -162,14 +163,14 @@ module _ (s : flat.State) (long : length (s .clients) ≡ limit.clients) (wide :
   behind-length : length (elems ++ combinerBytes s) ≡ 5 * limit.clients + 4
   behind-length = omega (arith, elems-length, length-append elems (combinerBytes s))
 
-  pub flat-length : length (flatBytes s) ≡ 21 * limit.clients + 4
+  pub flat-length : length (flatBytes s) ≡ flatLong
   flat-length = omega (arith, clients-length, behind-length, length-append clients (elems ++ combinerBytes s))
 
   module _ (l : List ℕ) where
-    pub flat-short : length l < 21 * limit.clients + 4 → Laid l 0 (flatBytes s) 0 l
+    pub flat-short : length l < flatLong → Laid l 0 (flatBytes s) 0 l
     flat-short h = none-laid l 0 (flatBytes s) (omega (arith, flat-length))
 
-    module _ (fits : 21 * limit.clients + 4 ≤ length l) (a : ℕ) (k : List ℕ) (first : Laid l 0 clients a k) where
+    module _ (fits : flatLong ≤ length l) (a : ℕ) (k : List ℕ) (first : Laid l 0 clients a k) where
       behind-room : a + 5 * limit.clients + 4 ≤ length k
       behind-room =
           let size = clients-length in

@@ -8,6 +8,7 @@ use Rattle.rows.specs.Bytes.{numberAt, big}
 use Rattle.rows.specs.Walk.{pieces}
 use Rattle.schedule.specs.Limits as limit
 use Rattle.counting.specs.declared.state.State as counting
+use Rattle.lock.specs.Image.{cellBytes}
 use Rattle.lock.specs.declared.state.Cell.{Cell}
 use Rattle.lock.specs.declared.state.Head.{Head}
 use Rattle.lock.specs.declared.state.State as lock
@@ -34,6 +35,9 @@ rowFrom entry i (suc n) = entry i ∷ rowFrom entry (i + 1) n
 
 -- ---------- counting
 
+abbrev pub countingLong : ℕ
+countingLong = 7
+
 abbrev pub countingFrom : List ℕ → counting.State
 countingFrom raw = record { t = numberAt raw 0 4; count = byteAt raw 4; refs = byteAt raw 5; present = setAt raw 6 }
 
@@ -41,6 +45,9 @@ abbrev pub countingBytes : counting.State → List ℕ
 countingBytes s = big 4 (s .t) ++ (s .count ∷ s .refs ∷ boolByte (s .present) ∷ [])
 
 -- ---------- lock
+
+abbrev pub lockLong : ℕ
+lockLong = 10 + 3 * limit.width
 
 abbrev pub cellAt : List ℕ → ℕ → Cell
 cellAt raw at = record { count = byteAt raw at; pending = byteAt raw (at + 1); guards = byteAt raw (at + 2) }
@@ -63,9 +70,6 @@ headFrom raw =
 abbrev pub lockFrom : List ℕ → lock.State
 lockFrom raw = record { head = headFrom raw; cells = cellsFrom raw }
 
-abbrev pub cellBytes : Cell → List ℕ
-cellBytes c = c .count ∷ c .pending ∷ c .guards ∷ []
-
 abbrev pub headBytes : Head → List ℕ
 headBytes h = big 4 (h .t) ++ (h .width ∷ h .cursor ∷ flagsBytes (h .locked) (h .stored) (h .pending) (h .guard))
 
@@ -74,16 +78,22 @@ lockBytes s = headBytes (s .head) ++ pieces cellBytes (s .cells)
 
 -- ---------- flag
 
-abbrev pub placesFrom : List ℕ → List ℕ
-placesFrom raw = rowFrom (λ i. byteAt raw (3 + i)) 0 limit.threads
+abbrev pub flagLong : ℕ
+flagLong = 3 + limit.threads
+
+abbrev pub flagPlaces : List ℕ → List ℕ
+flagPlaces raw = rowFrom (λ i. byteAt raw (3 + i)) 0 limit.threads
 
 abbrev pub flagFrom : List ℕ → flag.State
-flagFrom raw = record { threads = byteAt raw 0; pending = byteAt raw 1; value = setAt raw 2; places = placesFrom raw }
+flagFrom raw = record { threads = byteAt raw 0; pending = byteAt raw 1; value = setAt raw 2; places = flagPlaces raw }
 
 abbrev pub flagBytes : flag.State → List ℕ
 flagBytes s = s .threads ∷ s .pending ∷ boolByte (s .value) ∷ s .places
 
 -- ---------- flat
+
+abbrev pub flatLong : ℕ
+flatLong = 21 * limit.clients + 4
 
 abbrev pub clientAt : List ℕ → ℕ → Client
 clientAt raw at =

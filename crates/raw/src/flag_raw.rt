@@ -4,7 +4,7 @@ use flag::state::State;
 use schedule::limits;
 ghost use mathlib.Core.Path.{_≡_};
 ghost use Rattle.rows.specs.Stores.{Laid};
-ghost use Rattle.raw.specs.Raw.{placesFrom, flagFrom, flagBytes};
+ghost use Rattle.raw.specs.Raw.{flagPlaces, flagFrom, flagBytes};
 
 pub const HEAD: usize = 3;
 
@@ -23,7 +23,7 @@ pub fn flag_from(raw: &[u8]) -> State
 }
 
 fn places_from(raw: &[u8]) -> [u8; limits::THREADS]
-    ensures { λ r. ⌜ r ≡ placesFrom (now (raw .entry)) ⌝ }
+    ensures { λ r. ⌜ r ≡ flagPlaces (now (raw .entry)) ⌝ }
 {
     let mut places = [0u8; limits::THREADS];
     let mut k: usize = 0;

@@ -10,7 +10,8 @@ ghost use lib.ListN.{length};
 ghost use Rattle.rows.specs.Stores.{Laid};
 ghost use Rattle.rows.specs.Walk.{pieces};
 ghost use Rattle.schedule.specs.Limits as limit;
-ghost use Rattle.raw.specs.Raw.{cellAt, cellsFrom, headFrom, lockFrom, cellBytes, headBytes, lockBytes};
+ghost use Rattle.lock.specs.Image.{cellBytes};
+ghost use Rattle.raw.specs.Raw.{cellAt, cellsFrom, headFrom, lockFrom, headBytes, lockBytes};
 
 pub const HEAD: usize = 10;
 

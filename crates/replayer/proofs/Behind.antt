@@ -10,7 +10,7 @@ use Rattle.rows.proofs.Cases.{clash}
 use Rattle.machine.specs.Machine.{Machine}
 use Rattle.machine.specs.Rest.{Rested, restOf}
 use Rattle.schedule.specs.Limits as limit
-use Rattle.schedule.specs.Codes as code
+use Rattle.machine.specs.Codes as code
 use Rattle.schedule.specs.Language.{Language, stepAt}
 use Rattle.schedule.specs.Spelling as spelled
 use Rattle.schedule.specs.Widths as kind
@@ -30,7 +30,7 @@ use Rattle.flat.specs.Flat as flat
 use Rattle.flat.specs.Image as flatBytes
 use Rattle.lock.specs.Lock as lock
 use Rattle.lock.specs.Image as lockBytes
-use Rattle.counting.specs.Counting as count
+use Rattle.counting.specs.Counting as counting
 use Rattle.counting.specs.Image as countingBytes
 use Rattle.flag.specs.Flag as flag
 use Rattle.flag.specs.Image as flagBytes
@@ -85,13 +85,13 @@ decoded-allowed f s e = let o = behind-params f (openedOf f) s e in opened-allow
 
 -- ---------- they make a fresh machine
 
-pub flat-made : (n : ℕ) → n ≤ limit.clients → flat.freshOf n ≡ record { state = flat.emptyFlat n; code = 0 }
+pub flat-made : (n : ℕ) → n ≤ limit.clients → flat.freshOf n ≡ record { state = flat.freshState n; code = 0 }
 flat-made n h = rw (le-ltb limit.clients n h)
 
 pub lock-made : (w t : ℕ) → 1 ≤ w → w ≤ limit.width → lock.freshOf w t ≡ record { state = lock.freshState w t; code = 0 }
 lock-made w t l h = rw (ne-eqb w 0 (λ z. omega arith), le-ltb limit.width w h)
 
-pub flag-made : (n : ℕ) (v : Bool) → 1 ≤ n → n ≤ limit.threads → flag.freshOf n v ≡ record { state = flag.emptyFlag n v; code = 0 }
+pub flag-made : (n : ℕ) (v : Bool) → 1 ≤ n → n ≤ limit.threads → flag.freshOf n v ≡ record { state = flag.freshState n v; code = 0 }
 flag-made n v l h = rw (ne-eqb n 0 (λ z. omega arith), le-ltb limit.threads n h)
 
 -- ---------- the rest of the file is the answer to the decoded file
@@ -110,15 +110,15 @@ module _ (m : Machine) (l : Language (m .Step)) (bytes : m .Entry → List ℕ) 
 module _ (f log image : List ℕ) where
   opened-answered : (p : Params) (from : ℕ) → Allowed p → openedAs f p from log image ≡ answered (behindFront f (Open p from)) log image
   opened-answered (Flat n) from a =
-      rw (flat-made n a) (rest-answered flat.flat spelled.flat flatBytes.entryBytes flatBytes.imageBytes (flat.emptyFlat n) (ofFlat n) f log image (λ xs. refl) from)
+      rw (flat-made n a) (rest-answered flat.flat spelled.flat flatBytes.entryBytes flatBytes.imageBytes (flat.freshState n) (ofFlat n) f log image (λ xs. refl) from)
   opened-answered (Lock w t) from a =
       rw (lock-made w t (a .0) (a .1))
       (rest-answered lock.lock spelled.lock lockBytes.entryBytes lockBytes.imageBytes (lock.freshState w t) (ofLock w t) f log image (λ xs. refl) from)
   opened-answered Counting from a =
-      rest-answered count.counting spelled.counting countingBytes.entryBytes countingBytes.imageBytes count.freshState ofCounting f log image (λ xs. refl) from
+      rest-answered counting.counting spelled.counting countingBytes.entryBytes countingBytes.imageBytes counting.freshState ofCounting f log image (λ xs. refl) from
   opened-answered (Flag n v) from a =
       rw (flag-made n v (a .0) (a .1))
-      (rest-answered flag.flag spelled.flag flagBytes.entryBytes flagBytes.imageBytes (flag.emptyFlag n v) (ofFlag n v) f log image (λ xs. refl) from)
+      (rest-answered flag.flag spelled.flag flagBytes.entryBytes flagBytes.imageBytes (flag.freshState n v) (ofFlag n v) f log image (λ xs. refl) from)
 
   -- ---------- the ways out of `replay`
 

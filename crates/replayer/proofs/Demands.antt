@@ -15,7 +15,7 @@ use Rattle.machine.proofs.Pasts.{ran}
 use Rattle.machine.proofs.Singles.{single-unsound, kept-state}
 use Rattle.machine.proofs.Sourceds.{all-accepted, after-good}
 use Rattle.schedule.specs.Limits as limit
-use Rattle.schedule.specs.Codes as code
+use Rattle.machine.specs.Codes as code
 use Rattle.schedule.specs.Front.{faultCode, faultPlace}
 use Rattle.schedule.specs.Schedule.{Schedule, ofFlat, ofLock, ofCounting, ofFlag, Decoded, faulty, good, decode}
 use Rattle.schedule.specs.Answers.{Leaves}
@@ -28,45 +28,40 @@ use Rattle.schedule.specs.declared.steps.CountingStep.{CountingStep}
 use Rattle.schedule.specs.declared.steps.FlagStep.{FlagStep}
 use Rattle.schedule.specs.declared.steps.FlagStep.the-variants.{Begin, Move, Read}
 use Rattle.schedule.proofs.Given.{faults-given}
-use Rattle.flat.specs.Flat.{flat, emptyFlat}
+use Rattle.flat.specs.Flat as flat
 use Rattle.flat.specs.Sound as flatSound
 use Rattle.flat.specs.Refined as flatTo
 use Rattle.flat.specs.Image as flatBytes
 use Rattle.flat.proofs.Demands as flatProved
 use Rattle.flat.proofs.Refines as flatRefined
-use Rattle.lock.specs.Lock.{lock, freshState}
+use Rattle.lock.specs.Lock as lock
 use Rattle.lock.specs.Sound as lockSound
 use Rattle.lock.specs.Refined as lockTo
 use Rattle.lock.specs.Image as lockBytes
 use Rattle.lock.proofs.Demands as lockProved
 use Rattle.lock.proofs.Refines as lockRefined
-use Rattle.counting.specs.Counting as count
+use Rattle.counting.specs.Counting as counting
 use Rattle.counting.specs.Sound as countingSound
 use Rattle.counting.specs.Image as countingBytes
 use Rattle.counting.specs.Refined as countingTo
 use Rattle.counting.proofs.Refines as countingRefined
 use Rattle.counting.proofs.Demands as countingProved
-use Rattle.flag.specs.Flag.{flag, emptyFlag, next}
+use Rattle.flag.specs.Flag as flag
 use Rattle.flag.specs.declared.state.State as flagState
 use Rattle.flag.specs.Sound as flagSound
 use Rattle.flag.specs.Refined as flagTo
 use Rattle.flag.specs.Image as flagBytes
 use Rattle.flag.proofs.Demands as flagProved
 use Rattle.flag.proofs.Refines as flagRefined
-use Rattle.flat_run.proofs.Turns as flatTurns
-use Rattle.flat_run.proofs.Whole as flatWhole
-use Rattle.lock_run.proofs.Turns as lockTurns
-use Rattle.lock_run.proofs.Whole as lockWhole
-use Rattle.counting_run.proofs.Turns as countingTurns
-use Rattle.counting_run.proofs.Whole as countingWhole
-use Rattle.flag_run.proofs.Turns as flagTurns
-use Rattle.flag_run.proofs.Whole as flagWhole
+use Rattle.flat_run.proofs.Carried as flatRun
+use Rattle.lock_run.proofs.Carried as lockRun
+use Rattle.counting_run.proofs.Carried as countingRun
+use Rattle.flag_run.proofs.Carried as flagRun
 use Rattle.replayer.specs.Replay.{replayed, answered, replayOf}
-use Rattle.replayer.specs.Sources.{flatCombine, distRwLock, countingPermissions, helping}
 use Rattle.replayer.specs.Demands.{steps#, Room, MadeUpRefused, Demand1, Demand2, Demand3}
 use Rattle.replayer.proofs.Behind.{decoded-allowed}
 use Rattle.replayer.proofs.Rooms.{Keeps, untouched-keeps, no-room, roomy, rest-keeps, replays}
-use Rattle.replayer.proofs.Four.{flat-upholds, lock-upholds, counting-upholds, flag-upholds, flat-fresh, lock-fresh, flag-fresh, single-exact, flat-codes, lock-codes, counting-codes, flag-codes}
+use Rattle.replayer.proofs.Four.{flat-upholds, lock-upholds, counting-upholds, flag-upholds, flat-fresh, lock-fresh, counting-fresh, flag-fresh, single-exact, flat-codes, lock-codes, counting-codes, flag-codes}
 
 -- ---------- 1
 
@@ -82,28 +77,28 @@ module _ (log image : List ℕ) where
   fault-keeps Surplus = untouched-keeps code.surplus limit.steps log image (omega arith) (omega arith)
 
   schedule-keeps : (s : Schedule) → Keeps log image (replayed s log image)
-  schedule-keeps (ofFlat n xs) = rest-keeps flat flatBytes.entryBytes flatBytes.imageBytes (emptyFlat n) xs log image flat-codes flatTurns.short flatWhole.small
-  schedule-keeps (ofLock w t xs) = rest-keeps lock lockBytes.entryBytes lockBytes.imageBytes (freshState w t) xs log image lock-codes lockTurns.short lockWhole.small
+  schedule-keeps (ofFlat n xs) = rest-keeps flat.flat flatBytes.entryBytes flatBytes.imageBytes (flat.freshState n) xs log image flat-codes (flatRun.carries .short) (flatRun.carries .small)
+  schedule-keeps (ofLock w t xs) = rest-keeps lock.lock lockBytes.entryBytes lockBytes.imageBytes (lock.freshState w t) xs log image lock-codes (lockRun.carries .short) (lockRun.carries .small)
   schedule-keeps (ofCounting xs) =
-      rest-keeps count.counting countingBytes.entryBytes countingBytes.imageBytes count.freshState xs log image counting-codes countingTurns.short countingWhole.small
-  schedule-keeps (ofFlag n v xs) = rest-keeps flag flagBytes.entryBytes flagBytes.imageBytes (emptyFlag n v) xs log image flag-codes flagTurns.short flagWhole.small
+      rest-keeps counting.counting countingBytes.entryBytes countingBytes.imageBytes counting.freshState xs log image counting-codes (countingRun.carries .short) (countingRun.carries .small)
+  schedule-keeps (ofFlag n v xs) = rest-keeps flag.flag flagBytes.entryBytes flagBytes.imageBytes (flag.freshState n v) xs log image flag-codes (flagRun.carries .short) (flagRun.carries .small)
 
   answered-keeps : (d : Decoded) → Keeps log image (answered d log image)
   answered-keeps (faulty x) = fault-keeps x
   answered-keeps (good s) = schedule-keeps s
 
   schedule-short : (s : Schedule) → (Room (steps# s) log image → ⊥) → replayed s log image ≡ untouched code.room 0 log image
-  schedule-short (ofFlat n xs) = no-room flat flatBytes.entryBytes flatBytes.imageBytes (emptyFlat n) xs log image
-  schedule-short (ofLock w t xs) = no-room lock lockBytes.entryBytes lockBytes.imageBytes (freshState w t) xs log image
-  schedule-short (ofCounting xs) = no-room count.counting countingBytes.entryBytes countingBytes.imageBytes count.freshState xs log image
-  schedule-short (ofFlag n v xs) = no-room flag flagBytes.entryBytes flagBytes.imageBytes (emptyFlag n v) xs log image
+  schedule-short (ofFlat n xs) = no-room flat.flat flatBytes.entryBytes flatBytes.imageBytes (flat.freshState n) xs log image
+  schedule-short (ofLock w t xs) = no-room lock.lock lockBytes.entryBytes lockBytes.imageBytes (lock.freshState w t) xs log image
+  schedule-short (ofCounting xs) = no-room counting.counting countingBytes.entryBytes countingBytes.imageBytes counting.freshState xs log image
+  schedule-short (ofFlag n v xs) = no-room flag.flag flagBytes.entryBytes flagBytes.imageBytes (flag.freshState n v) xs log image
 
   schedule-roomy : (s : Schedule) → Room (steps# s) log image → replayed s log image .code ≡ code.room → ⊥
-  schedule-roomy (ofFlat n xs) = roomy flat flatBytes.entryBytes flatBytes.imageBytes (emptyFlat n) xs log image flat-codes flatTurns.short flatWhole.small
-  schedule-roomy (ofLock w t xs) = roomy lock lockBytes.entryBytes lockBytes.imageBytes (freshState w t) xs log image lock-codes lockTurns.short lockWhole.small
+  schedule-roomy (ofFlat n xs) = roomy flat.flat flatBytes.entryBytes flatBytes.imageBytes (flat.freshState n) xs log image flat-codes (flatRun.carries .short) (flatRun.carries .small)
+  schedule-roomy (ofLock w t xs) = roomy lock.lock lockBytes.entryBytes lockBytes.imageBytes (lock.freshState w t) xs log image lock-codes (lockRun.carries .short) (lockRun.carries .small)
   schedule-roomy (ofCounting xs) =
-      roomy count.counting countingBytes.entryBytes countingBytes.imageBytes count.freshState xs log image counting-codes countingTurns.short countingWhole.small
-  schedule-roomy (ofFlag n v xs) = roomy flag flagBytes.entryBytes flagBytes.imageBytes (emptyFlag n v) xs log image flag-codes flagTurns.short flagWhole.small
+      roomy counting.counting countingBytes.entryBytes countingBytes.imageBytes counting.freshState xs log image counting-codes (countingRun.carries .short) (countingRun.carries .small)
+  schedule-roomy (ofFlag n v xs) = roomy flag.flag flagBytes.entryBytes flagBytes.imageBytes (flag.freshState n v) xs log image flag-codes (flagRun.carries .short) (flagRun.carries .small)
 
 -- a state that is not sound fails the test, which is the record where the rows are whole
 made-up : (m : Machine) (sound : m .State → Bool) (Whole Sound : m .State → Type 0) → ((s : m .State) → Whole s → sound s ≡ true → Sound s) → MadeUpRefused m sound Whole Sound
@@ -131,14 +126,14 @@ module _ (f log image : List ℕ) where
         known = keeps .known;
         log-kept = keeps .log-kept;
         image-kept = keeps .image-kept;
-        refused-flat = kept-state flat flatSound.sound limit.entry;
-        refused-lock = kept-state lock lockSound.sound limit.entry;
-        refused-counting = kept-state count.counting countingSound.sound limit.entry;
-        refused-flag = kept-state flag flagSound.sound limit.entry;
-        made-up-flat = made-up flat flatSound.sound _ flatTo.Sound (λ s w e. flatRefined.refines .sound-told s (w .0) (w .1) e);
-        made-up-lock = made-up lock lockSound.sound _ lockTo.Sound (λ s w e. lockRefined.refines .sound-told s w e);
-        made-up-counting = made-up count.counting countingSound.sound _ countingTo.Sound (λ s w e. countingRefined.refines .sound-told s e);
-        made-up-flag = made-up flag flagSound.sound _ flagTo.Sound (λ s w e. flagRefined.refines .sound-told s w e);
+        refused-flat = kept-state flat.flat flatSound.sound limit.entry;
+        refused-lock = kept-state lock.lock lockSound.sound limit.entry;
+        refused-counting = kept-state counting.counting countingSound.sound limit.entry;
+        refused-flag = kept-state flag.flag flagSound.sound limit.entry;
+        made-up-flat = made-up flat.flat flatSound.sound _ flatTo.Sound (λ s w e. flatRefined.refines .sound-means s (w .0) (w .1) e);
+        made-up-lock = made-up lock.lock lockSound.sound _ lockTo.Sound (λ s w e. lockRefined.refines .sound-means s w e);
+        made-up-counting = made-up counting.counting countingSound.sound _ countingTo.Sound (λ s w e. countingRefined.refines .sound-means s e);
+        made-up-flag = made-up flag.flag flagSound.sound _ flagTo.Sound (λ s w e. flagRefined.refines .sound-means s w e);
       }
 
 -- ---------- 2
@@ -153,24 +148,24 @@ module _ (f log image : List ℕ) where
         step-flag = flag-upholds;
         fresh-flat = flat-fresh;
         fresh-lock = lock-fresh;
-        fresh-counting = refl;
+        fresh-counting = counting-fresh;
         fresh-flag = flag-fresh;
-        single-flat = single-exact flatCombine flatTo.Sound flatSound.sound flat-upholds (flatRefined.refines .told-sound);
-        single-lock = single-exact distRwLock lockTo.Sound lockSound.sound lock-upholds (lockRefined.refines .told-sound);
-        single-counting = single-exact countingPermissions (λ s. countingSound.sound s ≡ true) countingSound.sound counting-upholds (λ s e. e);
-        single-flag = single-exact helping flagTo.Sound flagSound.sound flag-upholds (flagRefined.refines .told-sound);
+        single-flat = single-exact flatTo.flatCombine flatTo.Sound flatSound.sound flat-upholds (flatRefined.refines .means-sound);
+        single-lock = single-exact lockTo.distRwLock lockTo.Sound lockSound.sound lock-upholds (lockRefined.refines .means-sound);
+        single-counting = single-exact countingTo.countingPermissions countingTo.Sound countingSound.sound counting-upholds (countingRefined.refines .means-sound);
+        single-flag = single-exact flagTo.helping flagTo.Sound flagSound.sound flag-upholds (flagRefined.refines .means-sound);
         file-flat = λ n xs e r. rw (decoded f log image (good (ofFlat n xs)) e)
-            (replays flat flatBytes.entryBytes flatBytes.imageBytes (emptyFlat n) xs log image flatCombine flatTo.Sound flat-upholds
+            (replays flat.flat flatBytes.entryBytes flatBytes.imageBytes (flat.freshState n) xs log image flatTo.flatCombine flatTo.Sound flat-upholds
             (flat-fresh n (decoded-allowed f (ofFlat n xs) e)) r);
         file-lock = λ w t xs e r. let a = decoded-allowed f (ofLock w t xs) e in
             rw (decoded f log image (good (ofLock w t xs)) e)
-            (replays lock lockBytes.entryBytes lockBytes.imageBytes (freshState w t) xs log image distRwLock lockTo.Sound lock-upholds (lock-fresh w t (a .0) (a .1)) r);
+            (replays lock.lock lockBytes.entryBytes lockBytes.imageBytes (lock.freshState w t) xs log image lockTo.distRwLock lockTo.Sound lock-upholds (lock-fresh w t (a .0) (a .1)) r);
         file-counting = λ xs e r. rw (decoded f log image (good (ofCounting xs)) e)
-            (replays count.counting countingBytes.entryBytes countingBytes.imageBytes count.freshState xs log image countingPermissions (λ s. countingSound.sound s ≡ true)
-            counting-upholds refl r);
+            (replays counting.counting countingBytes.entryBytes countingBytes.imageBytes counting.freshState xs log image countingTo.countingPermissions countingTo.Sound
+            counting-upholds counting-fresh r);
         file-flag = λ n v xs e r. let a = decoded-allowed f (ofFlag n v xs) e in
             rw (decoded f log image (good (ofFlag n v xs)) e)
-            (replays flag flagBytes.entryBytes flagBytes.imageBytes (emptyFlag n v) xs log image helping flagTo.Sound flag-upholds (flag-fresh n v (a .0) (a .1)) r);
+            (replays flag.flag flagBytes.entryBytes flagBytes.imageBytes (flag.freshState n v) xs log image flagTo.helping flagTo.Sound flag-upholds (flag-fresh n v (a .0) (a .1)) r);
       }
 
 -- ---------- 3
@@ -180,38 +175,38 @@ history : (m : Machine) (s : m .State) (ys : List (m .Step)) → AllAccepted m s
 history m s ys a = ran m s [] s ys start a
 
 -- no step changes how many threads there are
-threads-kept : (s : flagState.State) (ys : List FlagStep) → after flag s ys .threads ≡ s .threads
+threads-kept : (s : flagState.State) (ys : List FlagStep) → after flag.flag s ys .threads ≡ s .threads
 threads-kept s [] = refl
-threads-kept s (Begin k ∷ ys) = threads-kept (next s (Begin k)) ys
-threads-kept s (Move k ∷ ys) = threads-kept (next s (Move k)) ys
-threads-kept s (Read k ∷ ys) = threads-kept (next s (Read k)) ys
+threads-kept s (Begin k ∷ ys) = threads-kept (flag.next s (Begin k)) ys
+threads-kept s (Move k ∷ ys) = threads-kept (flag.next s (Move k)) ys
+threads-kept s (Read k ∷ ys) = threads-kept (flag.next s (Read k)) ys
 
 module _ (f : List ℕ) where
-  module _ (w t : ℕ) (xs ys : List LockStep) (e : decode f ≡ good (ofLock w t xs)) (n : AllEnabled distRwLock (freshState w t) ys) where
-    lock-run : Run lock (freshState w t) (past lock [] (freshState w t) ys) (after lock (freshState w t) ys)
+  module _ (w t : ℕ) (xs ys : List LockStep) (e : decode f ≡ good (ofLock w t xs)) (n : AllEnabled lockTo.distRwLock (lock.freshState w t) ys) where
+    lock-run : Run lock.lock (lock.freshState w t) (past lock.lock [] (lock.freshState w t) ys) (after lock.lock (lock.freshState w t) ys)
     lock-run =
         let a = decoded-allowed f (ofLock w t xs) e in
-        history lock (freshState w t) ys (all-accepted distRwLock lockTo.Sound lock-upholds (freshState w t) ys (lock-fresh w t (a .0) (a .1)) n)
+        history lock.lock (lock.freshState w t) ys (all-accepted lockTo.distRwLock lockTo.Sound lock-upholds (lock.freshState w t) ys (lock-fresh w t (a .0) (a .1)) n)
 
-  flat-run : (n : ℕ) (xs ys : List FlatStep) → decode f ≡ good (ofFlat n xs) → AllEnabled flatCombine (emptyFlat n) ys
-      → Run flat (emptyFlat n) (past flat [] (emptyFlat n) ys) (after flat (emptyFlat n) ys)
+  flat-run : (n : ℕ) (xs ys : List FlatStep) → decode f ≡ good (ofFlat n xs) → AllEnabled flatTo.flatCombine (flat.freshState n) ys
+      → Run flat.flat (flat.freshState n) (past flat.flat [] (flat.freshState n) ys) (after flat.flat (flat.freshState n) ys)
   flat-run n xs ys e a =
-      history flat (emptyFlat n) ys (all-accepted flatCombine flatTo.Sound flat-upholds (emptyFlat n) ys (flat-fresh n (decoded-allowed f (ofFlat n xs) e)) a)
+      history flat.flat (flat.freshState n) ys (all-accepted flatTo.flatCombine flatTo.Sound flat-upholds (flat.freshState n) ys (flat-fresh n (decoded-allowed f (ofFlat n xs) e)) a)
 
-  counting-run : (ys : List CountingStep) → AllEnabled countingPermissions count.freshState ys
-      → Run count.counting count.freshState (past count.counting [] count.freshState ys) (after count.counting count.freshState ys)
+  counting-run : (ys : List CountingStep) → AllEnabled countingTo.countingPermissions counting.freshState ys
+      → Run counting.counting counting.freshState (past counting.counting [] counting.freshState ys) (after counting.counting counting.freshState ys)
   counting-run ys a =
-      history count.counting count.freshState ys (all-accepted countingPermissions (λ s. countingSound.sound s ≡ true) counting-upholds count.freshState ys refl a)
+      history counting.counting counting.freshState ys (all-accepted countingTo.countingPermissions countingTo.Sound counting-upholds counting.freshState ys counting-fresh a)
 
-  module _ (n : ℕ) (v : Bool) (xs ys : List FlagStep) (e : decode f ≡ good (ofFlag n v xs)) (a : AllEnabled helping (emptyFlag n v) ys) where
+  module _ (n : ℕ) (v : Bool) (xs ys : List FlagStep) (e : decode f ≡ good (ofFlag n v xs)) (a : AllEnabled flagTo.helping (flag.freshState n v) ys) where
     flag-in : (1 ≤ n) × (n ≤ limit.threads)
     flag-in = decoded-allowed f (ofFlag n v xs) e
 
-    flag-all : AllAccepted flag (emptyFlag n v) ys
-    flag-all = all-accepted helping flagTo.Sound flag-upholds (emptyFlag n v) ys (flag-fresh n v (flag-in .0) (flag-in .1)) a
+    flag-all : AllAccepted flag.flag (flag.freshState n v) ys
+    flag-all = all-accepted flagTo.helping flagTo.Sound flag-upholds (flag.freshState n v) ys (flag-fresh n v (flag-in .0) (flag-in .1)) a
 
-    flag-sound : flagTo.Sound (after flag (emptyFlag n v) ys)
-    flag-sound = after-good helping flagTo.Sound flag-upholds (emptyFlag n v) ys (flag-fresh n v (flag-in .0) (flag-in .1)) flag-all
+    flag-sound : flagTo.Sound (after flag.flag (flag.freshState n v) ys)
+    flag-sound = after-good flagTo.helping flagTo.Sound flag-upholds (flag.freshState n v) ys (flag-fresh n v (flag-in .0) (flag-in .1)) flag-all
 
   pub demand3 : Demand3 f
   demand3 =
@@ -221,6 +216,6 @@ module _ (f : List ℕ) where
         answers = λ n xs ys zs e p a. flatProved.demanded n (decoded-allowed f (ofFlat n xs) e) _ _ (flat-run n xs ys e a);
         references = λ xs ys zs e p a. countingProved.demanded _ _ (counting-run ys a);
         flips = λ n v xs ys zs e p a. let i = flag-in n v xs ys e a in
-            flagProved.demanded n v (i .0) (i .1) _ _ (history flag (emptyFlag n v) ys (flag-all n v xs ys e a));
-        alone = λ n v xs ys zs e p a k h. flagRefined.refines .ends _ (flag-sound n v xs ys e a) k (rw (threads-kept (emptyFlag n v) ys) h);
+            flagProved.demanded n v (i .0) (i .1) _ _ (history flag.flag (flag.freshState n v) ys (flag-all n v xs ys e a));
+        alone = λ n v xs ys zs e p a k h. flagRefined.refines .ends _ (flag-sound n v xs ys e a) k (rw (threads-kept (flag.freshState n v) ys) h);
       }

@@ -11,7 +11,7 @@ use Rattle.machine.specs.Sourced.{Sourced, Upholds}
 use Rattle.machine.proofs.Steps.{accepted-code}
 use Rattle.machine.proofs.Singles.{single-accepted, zero-accepted}
 use Rattle.schedule.specs.Limits as limit
-use Rattle.schedule.specs.Codes as code
+use Rattle.machine.specs.Codes as code
 use Rattle.schedule.specs.declared.steps.FlatStep.{FlatStep}
 use Rattle.schedule.specs.declared.steps.FlatStep.the-variants.{ClientSend, ClientRecv, CombinerRecv, CombinerSkip, CombinerGoToResponding, CombinerSend, CombinerSendSkip, CombinerGoToCollecting}
 use Rattle.schedule.specs.declared.steps.LockStep.{LockStep}
@@ -28,90 +28,53 @@ use Rattle.lock.specs.Lock as lock
 use Rattle.lock.specs.Refined as lockTo
 use Rattle.lock.specs.declared.state.State as lockState
 use Rattle.lock.proofs.Refines as lockProved
-use Rattle.counting.specs.Counting as count
-use Rattle.counting.specs.Sound as countingSound
+use Rattle.counting.specs.Counting as counting
+use Rattle.counting.specs.Refined as countingTo
 use Rattle.counting.specs.declared.state.State as countingState
 use Rattle.counting.proofs.Refines as countingProved
 use Rattle.flag.specs.Flag as flag
 use Rattle.flag.specs.Refined as flagTo
 use Rattle.flag.specs.declared.state.State as flagState
 use Rattle.flag.proofs.Refines as flagProved
-use Rattle.replayer.specs.Sources.{flatCombine, distRwLock, countingPermissions, helping}
 use Rattle.replayer.specs.Demands.{SingleExact}
 use Rattle.replayer.proofs.Rooms.{spans}
 
 -- ---------- the sources are upheld
 
-pub flat-upholds : Upholds flatCombine flatTo.Sound
-flat-upholds =
-    let r = flatProved.refines in
-    record {
-      accepted-enabled = r .accepted-enabled;
-      enabled-accepted = r .enabled-accepted;
-      accepted-moves = r .accepted-moves;
-      accepted-post = r .accepted-post;
-      accepted-safe = r .accepted-safe;
-      accepted-logs = r .accepted-logs;
-      accepted-good = r .accepted-sound;
-    }
+pub flat-upholds : Upholds flatTo.flatCombine flatTo.Sound
+flat-upholds = flatProved.refines .upholds
 
-pub lock-upholds : Upholds distRwLock lockTo.Sound
-lock-upholds =
-    let r = lockProved.refines in
-    record {
-      accepted-enabled = r .accepted-enabled;
-      enabled-accepted = r .enabled-accepted;
-      accepted-moves = r .accepted-moves;
-      accepted-post = r .accepted-post;
-      accepted-safe = r .accepted-safe;
-      accepted-logs = r .accepted-logs;
-      accepted-good = r .accepted-sound;
-    }
+pub lock-upholds : Upholds lockTo.distRwLock lockTo.Sound
+lock-upholds = lockProved.refines .upholds
 
-pub counting-upholds : Upholds countingPermissions (λ s. countingSound.sound s ≡ true)
-counting-upholds =
-    let r = countingProved.refines in
-    record {
-      accepted-enabled = r .accepted-enabled;
-      enabled-accepted = r .enabled-accepted;
-      accepted-moves = r .accepted-moves;
-      accepted-post = r .accepted-post;
-      accepted-safe = r .accepted-safe;
-      accepted-logs = r .accepted-logs;
-      accepted-good = r .accepted-sound;
-    }
+pub counting-upholds : Upholds countingTo.countingPermissions countingTo.Sound
+counting-upholds = countingProved.refines .upholds
 
-pub flag-upholds : Upholds helping flagTo.Sound
-flag-upholds =
-    let r = flagProved.refines in
-    record {
-      accepted-enabled = r .accepted-enabled;
-      enabled-accepted = r .enabled-accepted;
-      accepted-moves = r .accepted-moves;
-      accepted-post = r .accepted-post;
-      accepted-safe = λ s x g a. tt;
-      accepted-logs = r .accepted-logs;
-      accepted-good = r .accepted-sound;
-    }
+pub flag-upholds : Upholds flagTo.helping flagTo.Sound
+flag-upholds = flagProved.refines .upholds
 
 -- ---------- fresh machines are sound
 
-pub flat-fresh : (n : ℕ) → n ≤ limit.clients → flatTo.Sound (flat.emptyFlat n)
-flat-fresh n h = let r = flatProved.refines in r .sound-told (flat.emptyFlat n) refl refl (r .fresh-sound n h)
+pub flat-fresh : (n : ℕ) → n ≤ limit.clients → flatTo.Sound (flat.freshState n)
+flat-fresh n h = let r = flatProved.refines in r .sound-means (flat.freshState n) refl refl (r .fresh-sound n h)
 
 pub lock-fresh : (w t : ℕ) → 1 ≤ w → w ≤ limit.width → lockTo.Sound (lock.freshState w t)
-lock-fresh w t l h = let r = lockProved.refines in r .sound-told (lock.freshState w t) refl (r .fresh-sound w t l h)
+lock-fresh w t l h = let r = lockProved.refines in r .sound-means (lock.freshState w t) refl (r .fresh-sound w t l h)
 
-pub flag-fresh : (n : ℕ) (v : Bool) → 1 ≤ n → n ≤ limit.threads → flagTo.Sound (flag.emptyFlag n v)
-flag-fresh n v l h = let r = flagProved.refines in r .sound-told (flag.emptyFlag n v) refl (r .fresh-sound n v l h)
+pub counting-fresh : countingTo.Sound counting.freshState
+counting-fresh = let r = countingProved.refines in r .sound-means counting.freshState (r .fresh-sound)
+
+pub flag-fresh : (n : ℕ) (v : Bool) → 1 ≤ n → n ≤ limit.threads → flagTo.Sound (flag.freshState n v)
+flag-fresh n v l h = let r = flagProved.refines in r .sound-means (flag.freshState n v) refl (r .fresh-sound n v l h)
 
 -- ---------- a single step, by the source
 
-pub single-exact : {m : Machine} (o : Sourced m) (Good : m .State → Type 0) (sound : m .State → Bool) → Upholds o Good → ((s : m .State) → Good s → sound s ≡ true) → SingleExact o Good sound
-single-exact {m} o Good sound u told =
+pub single-exact : {m : Machine} (o : Sourced m) (Good : m .State → Type 0) (sound : m .State → Bool) → Upholds o Good
+    → ((s : m .State) → Good s → sound s ≡ true) → SingleExact o Good sound
+single-exact {m} o Good sound u tested =
     record {
       enabled = λ s x log h g z. u .accepted-enabled s x g (zero-accepted m sound limit.entry s x log z);
-      does = λ s x log h g e. single-accepted m sound limit.entry s x log h (told s g) (accepted-code m s x (u .enabled-accepted s x g e));
+      does = λ s x log h g e. single-accepted m sound limit.entry s x log h (tested s g) (accepted-code m s x (u .enabled-accepted s x g e));
     }
 
 -- ---------- the codes of steps go from 11 to 18
@@ -135,7 +98,7 @@ lock-codes q (SharedStart r) = refl
 lock-codes q (SharedFinish r) = refl
 lock-codes q (SharedRelease r t) = refl
 
-pub counting-codes : (q : countingState.State) (x : CountingStep) → spans code.outside code.full (count.tests q x) ≡ true
+pub counting-codes : (q : countingState.State) (x : CountingStep) → spans code.outside code.full (counting.tests q x) ≡ true
 counting-codes q (WriteableToReadable t) = refl
 counting-codes q ReadableToWriteable = refl
 counting-codes q NewRef = refl

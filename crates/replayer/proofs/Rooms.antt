@@ -22,7 +22,7 @@ use Rattle.machine.proofs.Pasts.{replay-log}
 use Rattle.machine.proofs.Rests.{replay-short}
 use Rattle.machine.proofs.Sourceds.{exact}
 use Rattle.schedule.specs.Limits as limit
-use Rattle.schedule.specs.Codes as code
+use Rattle.machine.specs.Codes as code
 use Rattle.replayer.specs.Demands.{Room, Wrote, Replays}
 
 -- ---------- the codes of a step

@@ -15,9 +15,9 @@ use Rattle.machine.specs.History.{logOf}
 use Rattle.machine.specs.Replay.{Replayed, after, past}
 use Rattle.machine.specs.Rest.{Rested, untouched}
 use Rattle.machine.specs.Single.{single, handedBack}
-use Rattle.machine.specs.Sourced.{Sourced, AllEnabled, Exact, Upholds}
+use Rattle.machine.specs.Sourced.{Sourced, Enabled, AllEnabled, Exact, Upholds}
 use Rattle.schedule.specs.Limits as limit
-use Rattle.schedule.specs.Codes as code
+use Rattle.machine.specs.Codes as code
 use Rattle.schedule.specs.Front.{faultCode, faultPlace}
 use Rattle.schedule.specs.Given.{FaultsGiven}
 use Rattle.schedule.specs.Schedule.{Schedule, ofFlat, ofLock, ofCounting, ofFlag, faulty, good, decode}
@@ -28,28 +28,27 @@ use Rattle.schedule.specs.declared.steps.FlatStep.{FlatStep}
 use Rattle.schedule.specs.declared.steps.LockStep.{LockStep}
 use Rattle.schedule.specs.declared.steps.CountingStep.{CountingStep}
 use Rattle.schedule.specs.declared.steps.FlagStep.{FlagStep}
-use Rattle.flat.specs.Flat.{flat, emptyFlat}
+use Rattle.flat.specs.Flat as flat
 use Rattle.flat.specs.Sound as flatSound
 use Rattle.flat.specs.Refined as flatTo
 use Rattle.flat.specs.Image as flatBytes
 use Rattle.flat.specs.Demand as flatDemand
-use Rattle.lock.specs.Lock.{lock, freshState, cell}
+use Rattle.lock.specs.Lock as lock
 use Rattle.lock.specs.Sound as lockSound
 use Rattle.lock.specs.Refined as lockTo
 use Rattle.lock.specs.Image as lockBytes
 use Rattle.lock.specs.Demand as lockDemand
-use Rattle.counting.specs.Counting as count
+use Rattle.counting.specs.Counting as counting
 use Rattle.counting.specs.Sound as countingSound
 use Rattle.counting.specs.Refined as countingTo
 use Rattle.counting.specs.Image as countingBytes
 use Rattle.counting.specs.Demand as countingDemand
-use Rattle.flag.specs.Flag.{flag, emptyFlag}
+use Rattle.flag.specs.Flag as flag
 use Rattle.flag.specs.Sound as flagSound
 use Rattle.flag.specs.Refined as flagTo
 use Rattle.flag.specs.Image as flagBytes
 use Rattle.flag.specs.Demand as flagDemand
 use Rattle.replayer.specs.Replay.{replayOf}
-use Rattle.replayer.specs.Sources.{flatCombine, distRwLock, countingPermissions, helping}
 
 -- how many steps a schedule has, and buffers of the scope's sizes for n steps
 abbrev pub steps# : Schedule → ℕ
@@ -102,15 +101,15 @@ pub record Demand1 (f log image : List ℕ) : Type 0 where
   pub image-kept : let a = replayOf f log image in Wrote (a .imaged) image (a .image)
   -- "A refused step leaves the state that stood before it and the log of the steps before it": a single step here, a file's step in the fields state and
   -- log of `Exact`, below
-  pub refused-flat : RefusalKeeps flat flatSound.sound
-  pub refused-lock : RefusalKeeps lock lockSound.sound
-  pub refused-counting : RefusalKeeps count.counting countingSound.sound
-  pub refused-flag : RefusalKeeps flag flagSound.sound
+  pub refused-flat : RefusalKeeps flat.flat flatSound.sound
+  pub refused-lock : RefusalKeeps lock.lock lockSound.sound
+  pub refused-counting : RefusalKeeps counting.counting countingSound.sound
+  pub refused-flag : RefusalKeeps flag.flag flagSound.sound
   -- "A made-up machine state is tested and, if not sound, refused."
-  pub made-up-flat : MadeUpRefused flat flatSound.sound (λ s. (length (s .clients) ≡ limit.clients) × (length (s .elems) ≡ limit.clients)) flatTo.Sound
-  pub made-up-lock : MadeUpRefused lock lockSound.sound (λ s. length (s .cells) ≡ limit.width) lockTo.Sound
-  pub made-up-counting : MadeUpRefused count.counting countingSound.sound (λ s. Unit {0}) countingTo.Sound
-  pub made-up-flag : MadeUpRefused flag flagSound.sound (λ s. length (s .places) ≡ limit.threads) flagTo.Sound
+  pub made-up-flat : MadeUpRefused flat.flat flatSound.sound (λ s. (length (s .clients) ≡ limit.clients) × (length (s .elems) ≡ limit.clients)) flatTo.Sound
+  pub made-up-lock : MadeUpRefused lock.lock lockSound.sound (λ s. length (s .cells) ≡ limit.width) lockTo.Sound
+  pub made-up-counting : MadeUpRefused counting.counting countingSound.sound (λ s. Unit {0}) countingTo.Sound
+  pub made-up-flag : MadeUpRefused flag.flag flagSound.sound (λ s. length (s .places) ≡ limit.threads) flagTo.Sound
 
 -- ---------- 2
 
@@ -130,58 +129,58 @@ pub record Replays {m : Machine} (o : Sourced m) (bytes : m .Entry → List ℕ)
 
 -- a single step on a sound state, with a log buffer of the scope's size: 0 exactly when it is enabled, and then what the step does
 pub record SingleExact {m : Machine} (o : Sourced m) (Good : m .State → Type 0) (sound : m .State → Bool) : Type 0 where
-  pub enabled : (s : m .State) (x : m .Step) (log : List ℕ) → limit.entry ≤ length log → Good s → single m sound limit.entry s (some x) log .code ≡ 0 → o .Enabled s x
-  pub does : (s : m .State) (x : m .Step) (log : List ℕ) → limit.entry ≤ length log → Good s → o .Enabled s x
+  pub enabled : (s : m .State) (x : m .Step) (log : List ℕ) → limit.entry ≤ length log → Good s → single m sound limit.entry s (some x) log .code ≡ 0 → Enabled o s x
+  pub does : (s : m .State) (x : m .Step) (log : List ℕ) → limit.entry ≤ length log → Good s → Enabled o s x
       → single m sound limit.entry s (some x) log ≡ record { code = 0; state = m .next s x; wrote = m .logs s x }
 
 pub record Demand2 (f log image : List ℕ) : Type 0 where
   -- "A step is accepted exactly when its transition in the source is enabled and the counter limit of document 01 isn't reached, and it then does what
   -- the source says": of every sound state
-  pub step-flat : Upholds flatCombine flatTo.Sound
-  pub step-lock : Upholds distRwLock lockTo.Sound
-  pub step-counting : Upholds countingPermissions (λ s. countingSound.sound s ≡ true)
-  pub step-flag : Upholds helping flagTo.Sound
+  pub step-flat : Upholds flatTo.flatCombine flatTo.Sound
+  pub step-lock : Upholds lockTo.distRwLock lockTo.Sound
+  pub step-counting : Upholds countingTo.countingPermissions countingTo.Sound
+  pub step-flag : Upholds flagTo.helping flagTo.Sound
   -- and all that a schedule reaches are sound: fresh machines are, and `Upholds` says that accepted steps keep it
-  pub fresh-flat : (n : ℕ) → n ≤ limit.clients → flatTo.Sound (emptyFlat n)
-  pub fresh-lock : (w t : ℕ) → 1 ≤ w → w ≤ limit.width → lockTo.Sound (freshState w t)
-  pub fresh-counting : countingSound.sound count.freshState ≡ true
-  pub fresh-flag : (n : ℕ) (v : Bool) → 1 ≤ n → n ≤ limit.threads → flagTo.Sound (emptyFlag n v)
+  pub fresh-flat : (n : ℕ) → n ≤ limit.clients → flatTo.Sound (flat.freshState n)
+  pub fresh-lock : (w t : ℕ) → 1 ≤ w → w ≤ limit.width → lockTo.Sound (lock.freshState w t)
+  pub fresh-counting : countingTo.Sound counting.freshState
+  pub fresh-flag : (n : ℕ) (v : Bool) → 1 ≤ n → n ≤ limit.threads → flagTo.Sound (flag.freshState n v)
   -- single steps likewise
-  pub single-flat : SingleExact flatCombine flatTo.Sound flatSound.sound
-  pub single-lock : SingleExact distRwLock lockTo.Sound lockSound.sound
-  pub single-counting : SingleExact countingPermissions (λ s. countingSound.sound s ≡ true) countingSound.sound
-  pub single-flag : SingleExact helping flagTo.Sound flagSound.sound
+  pub single-flat : SingleExact flatTo.flatCombine flatTo.Sound flatSound.sound
+  pub single-lock : SingleExact lockTo.distRwLock lockTo.Sound lockSound.sound
+  pub single-counting : SingleExact countingTo.countingPermissions countingTo.Sound countingSound.sound
+  pub single-flag : SingleExact flagTo.helping flagTo.Sound flagSound.sound
   -- "With buffers of document 01's sizes, a well-formed schedule is refused exactly at its first disabled step, by index and reason; a step at the limit
   -- counts as disabled": the field `exact` of each
   pub file-flat : (n : ℕ) (xs : List FlatStep) → decode f ≡ good (ofFlat n xs) → Room (length xs) log image
-      → Replays flatCombine flatBytes.entryBytes flatBytes.imageBytes (emptyFlat n) xs log image (replayOf f log image)
+      → Replays flatTo.flatCombine flatBytes.entryBytes flatBytes.imageBytes (flat.freshState n) xs log image (replayOf f log image)
   pub file-lock : (w t : ℕ) (xs : List LockStep) → decode f ≡ good (ofLock w t xs) → Room (length xs) log image
-      → Replays distRwLock lockBytes.entryBytes lockBytes.imageBytes (freshState w t) xs log image (replayOf f log image)
+      → Replays lockTo.distRwLock lockBytes.entryBytes lockBytes.imageBytes (lock.freshState w t) xs log image (replayOf f log image)
   pub file-counting : (xs : List CountingStep) → decode f ≡ good (ofCounting xs) → Room (length xs) log image
-      → Replays countingPermissions countingBytes.entryBytes countingBytes.imageBytes count.freshState xs log image (replayOf f log image)
+      → Replays countingTo.countingPermissions countingBytes.entryBytes countingBytes.imageBytes counting.freshState xs log image (replayOf f log image)
   pub file-flag : (n : ℕ) (v : Bool) (xs : List FlagStep) → decode f ≡ good (ofFlag n v xs) → Room (length xs) log image
-      → Replays helping flagBytes.entryBytes flagBytes.imageBytes (emptyFlag n v) xs log image (replayOf f log image)
+      → Replays flagTo.helping flagBytes.entryBytes flagBytes.imageBytes (flag.freshState n v) xs log image (replayOf f log image)
 
 -- ---------- 3
 
 -- "After every accepted prefix from a fresh machine": ys, of the steps of any file, each enabled in turn
 pub record Demand3 (f : List ℕ) : Type 0 where
   -- "no writer guard stands beside a reader guard, and each reader guard carries the record of the latest writer release, or the initial one"
-  pub guards : (w t : ℕ) (xs ys zs : List LockStep) → decode f ≡ good (ofLock w t xs) → xs ≡ ys ++ zs → AllEnabled distRwLock (freshState w t) ys
-      → lockDemand.Demand t (past lock [] (freshState w t) ys)
+  pub guards : (w t : ℕ) (xs ys zs : List LockStep) → decode f ≡ good (ofLock w t xs) → xs ≡ ys ++ zs → AllEnabled lockTo.distRwLock (lock.freshState w t) ys
+      → lockDemand.Demand t (past lock.lock [] (lock.freshState w t) ys)
   -- the scope: "a cell equals its accepted shared_starts less its accepted shared_releases"
-  pub cells : (w t : ℕ) (xs ys zs : List LockStep) → decode f ≡ good (ofLock w t xs) → xs ≡ ys ++ zs → AllEnabled distRwLock (freshState w t) ys
-      → let h = past lock [] (freshState w t) ys in (r : ℕ) → cell (after lock (freshState w t) ys) r .count + lockDemand.releases h r ≡ lockDemand.starts h r
+  pub cells : (w t : ℕ) (xs ys zs : List LockStep) → decode f ≡ good (ofLock w t xs) → xs ≡ ys ++ zs → AllEnabled lockTo.distRwLock (lock.freshState w t) ys
+      → let h = past lock.lock [] (lock.freshState w t) ys in (r : ℕ) → lock.cell (after lock.lock (lock.freshState w t) ys) r .count + lockDemand.sharedReleases h r ≡ lockDemand.sharedStarts h r
   -- "a client's k-th answer belongs to its k-th request, with that request's id and the payload of the one combiner send made for it"
-  pub answers : (n : ℕ) (xs ys zs : List FlatStep) → decode f ≡ good (ofFlat n xs) → xs ≡ ys ++ zs → AllEnabled flatCombine (emptyFlat n) ys
-      → flatDemand.Demand (past flat [] (emptyFlat n) ys)
+  pub answers : (n : ℕ) (xs ys zs : List FlatStep) → decode f ≡ good (ofFlat n xs) → xs ≡ ys ++ zs → AllEnabled flatTo.flatCombine (flat.freshState n) ys
+      → flatDemand.Demand (past flat.flat [] (flat.freshState n) ys)
   -- the counting machine's share: each reference that is held carries the stored value
-  pub references : (xs ys zs : List CountingStep) → decode f ≡ good (ofCounting xs) → xs ≡ ys ++ zs → AllEnabled countingPermissions count.freshState ys
-      → countingDemand.Demand (past count.counting [] count.freshState ys)
+  pub references : (xs ys zs : List CountingStep) → decode f ≡ good (ofCounting xs) → xs ≡ ys ++ zs → AllEnabled countingTo.countingPermissions counting.freshState ys
+      → countingDemand.Demand (past counting.counting [] counting.freshState ys)
   -- "each finished flip, also a helped or cancelled one, is logged once, by a step after its beginning and not after its end, an unfinished one at most
   -- once; each read shows the initial value turned once for every flip logged before it"
-  pub flips : (n : ℕ) (v : Bool) (xs ys zs : List FlagStep) → decode f ≡ good (ofFlag n v xs) → xs ≡ ys ++ zs → AllEnabled helping (emptyFlag n v) ys
-      → flagDemand.Demand (emptyFlag n v) v (past flag [] (emptyFlag n v) ys)
+  pub flips : (n : ℕ) (v : Bool) (xs ys zs : List FlagStep) → decode f ≡ good (ofFlag n v xs) → xs ≡ ys ++ zs → AllEnabled flagTo.helping (flag.freshState n v) ys
+      → flagDemand.Demand (flag.freshState n v) v (past flag.flag [] (flag.freshState n v) ys)
   -- "A flip whose thread moves alone ends within five moves."
-  pub alone : (n : ℕ) (v : Bool) (xs ys zs : List FlagStep) → decode f ≡ good (ofFlag n v xs) → xs ≡ ys ++ zs → AllEnabled helping (emptyFlag n v) ys
-      → (k : ℕ) → k < n → flagTo.EndsWithin k 5 (after flag (emptyFlag n v) ys)
+  pub alone : (n : ℕ) (v : Bool) (xs ys zs : List FlagStep) → decode f ≡ good (ofFlag n v xs) → xs ≡ ys ++ zs → AllEnabled flagTo.helping (flag.freshState n v) ys
+      → (k : ℕ) → k < n → flagTo.EndsWithin k 5 (after flag.flag (flag.freshState n v) ys)

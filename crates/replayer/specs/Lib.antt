@@ -1,5 +1,4 @@
 pub mod Replay
 pub mod Cases
 pub mod Imposters
-pub mod Sources
 pub mod Demands

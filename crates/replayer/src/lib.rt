@@ -1,7 +1,7 @@
 // The replayer: any bytes, any two buffers, one answer.
+use machine::codes;
 use schedule::answer;
 use schedule::answer::Answer;
-use schedule::codes;
 use schedule::front;
 use schedule::front::Opened;
 use schedule::limits;

@@ -87,6 +87,13 @@ pub fn put2(dst: &mut [u8], at: usize, x: u16) -> usize
 pub fn put4(dst: &mut [u8], at: usize, x: u32) -> usize
     ensures { λ r. ⌜ Laid (now (dst .entry)) at (big 4 x) r (now (dst .exit)) ⌝ }
 {
+    put_last4(dst, at, x as usize)
+}
+
+// The last four bytes of a number of any size.
+pub fn put_last4(dst: &mut [u8], at: usize, x: usize) -> usize
+    ensures { λ r. ⌜ Laid (now (dst .entry)) at (big 4 x) r (now (dst .exit)) ⌝ }
+{
     if dst.len() < 4 {
         return at;
     }

@@ -1,9 +1,11 @@
 -- The proofs of the language of schedules, in reading order. Assumes nothing.
 -- what the proofs of the functions cite
+pub mod Opening
 pub mod LengthTable
 pub mod MeasureTests
 pub mod PastEnd
 pub mod Tags
+pub mod Found
 pub mod CountLoop
 -- what each answer says of the file's bytes, and that the bytes settle it
 pub mod MeasureSays

@@ -16,7 +16,7 @@ use Rattle.machine.specs.Loop.{stepsFrom}
 use Rattle.machine.specs.Rest.{Rested, untouched, finished, restOf}
 use Rattle.machine.proofs.Rests.{length-steps, replay-short}
 use Rattle.schedule.specs.Limits as limit
-use Rattle.schedule.specs.Codes as code
+use Rattle.machine.specs.Codes as code
 use Rattle.schedule.specs.Language.{Language, stepAt, sizeOf}
 use Rattle.schedule.specs.Reading.{Placed, broken, surplus, placed, placesFrom}
 use Rattle.schedule.specs.Counting.{counted, countedOf}

@@ -5,6 +5,8 @@ use Prim.Native.Nat.{ℕ}
 use native.Mathlib.Omega.{arith}
 use lib.ListN.{length}
 use lib.Seq.{ext-getD}
+use Rattle.rows.proofs.Settled.{settled}
+use Rattle.machine.specs.Rest.{Rested}
 use Rattle.schedule.specs.Widths.{lengthOf, RowOf}
 use Rattle.schedule.specs.Language.{stepAt}
 use Rattle.schedule.specs.Spelling.{flat, lock, counting, flag}
@@ -12,7 +14,7 @@ use Rattle.schedule.specs.Reading.{measuredAt}
 use Rattle.schedule.specs.Front.{faultCode, faultPlace, openedOf}
 use Rattle.schedule.specs.Counting.{countedOf}
 use Rattle.schedule.specs.Finding.{foundAt}
-use Rattle.schedule.specs.Answers.{refusedAs}
+use Rattle.schedule.specs.Answers.{refusedAs, Leaves}
 use Rattle.schedule.specs.declared.steps.FlatStep.{FlatStep}
 use Rattle.schedule.specs.declared.steps.LockStep.{LockStep}
 use Rattle.schedule.specs.declared.steps.CountingStep.{CountingStep}
@@ -24,9 +26,9 @@ use Rattle.schedule.specs.declared.count.Counted.{Counted}
 use Rattle.schedule.specs.declared.read.Found.{Found}
 use Rattle.schedule.specs.declared.answer.Answer.{Answer}
 
--- every promise here names its answer
-settled : {A : Type 0} {r q x : A} → r ≡ x → q ≡ x → r ≡ q
-settled a b = a ∙ sym b
+-- an answer to a whole file, with both buffers; every other promise here names its answer
+pub leaves-settled : (o : Rested) {r q : Answer} {k m i j : List ℕ} → Leaves o r k i → Leaves o q m j → (r ≡ q) × (k ≡ m) × (i ≡ j)
+leaves-settled o a b = (settled (a .answer) (b .answer), settled (a .log) (b .log), settled (a .image) (b .image))
 
 pub code-settled : (fault : Fault) {r q : ℕ} → r ≡ faultCode fault → q ≡ faultCode fault → r ≡ q
 code-settled fault = settled

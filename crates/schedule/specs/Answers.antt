@@ -4,14 +4,14 @@ use mathlib.Core.List.{List, map}
 use Prim.Native.Nat.{ℕ}
 use Rattle.machine.specs.Machine.{Machine}
 use Rattle.machine.specs.Rest.{Rested, untouched, restOf}
+use Rattle.machine.specs.Codes as code
 use Rattle.schedule.specs.Limits as limit
-use Rattle.schedule.specs.Codes as code
 use Rattle.schedule.specs.Language.{Language, stepAt}
 use Rattle.schedule.specs.Reading.{Placed, broken, surplus, placed, placesFrom}
 use Rattle.schedule.specs.declared.answer.Answer.{Answer}
 
 abbrev pub refusedAs : ℕ → ℕ → Answer
-refusedAs code place = record { place = place; logged = 0; imaged = 0; code = code }
+refusedAs c place = record { place = place; logged = 0; imaged = 0; code = c }
 
 abbrev pub answerOf : Rested → Answer
 answerOf o = record { place = o .place; logged = o .logged; imaged = o .imaged; code = o .code }

@@ -7,7 +7,7 @@ use lib.ListN.{length, getD}
 use Rattle.rows.specs.Bytes.{numberAt}
 use Rattle.schedule.specs.Widths.{flat, lock, counting, flag}
 use Rattle.schedule.specs.Limits as limit
-use Rattle.schedule.specs.Codes as code
+use Rattle.machine.specs.Codes as code
 use Rattle.schedule.specs.declared.steps.Params as Params
 use Rattle.schedule.specs.declared.front.Fault.{Fault}
 use Rattle.schedule.specs.declared.front.Fault.the-variants.{Length, Version, Body, Kind, Parameter, Step, Surplus}

@@ -1,5 +1,4 @@
 pub mod Limits
-pub mod Codes
 pub mod Widths
 pub mod Language
 pub mod Spelling

@@ -18,18 +18,29 @@ use Rattle.schedule.specs.declared.count.Counted.the-variants.{Steps}
 abbrev pub Counts : ℕ → List ℕ → ℕ → ℕ → Type 0
 Counts kind f from n = countedOf kind f from ≡ Steps n
 
-module _ (m : Machine) (l : Language (m .Step)) where
+-- a machine with its language, the bytes of its entries and of its states, and the states that a run may start from
+pub record Runner : Type 1 where
+  pub machine : Machine
+  pub language : Language (machine .Step)
+  pub bytes : machine .Entry → List ℕ
+  pub image : machine .State → List ℕ
+  pub Good : machine .State → Type 0
+
+module _ (p : Runner) where
   -- n steps stand in the file from `from` on, the state is one that a run may start from, and the log has room for them from `used` on
-  pub record Runnable (Good : m .State → Type 0) (f : List ℕ) (from n : ℕ) (q : m .State) (used room : ℕ) : Type 0 where
-    pub formed : Formed (stepAt l) (sizeOf l) f from n
-    pub safe : Good q
+  pub record Runnable (f : List ℕ) (from n : ℕ) (q : p .machine .State) (used room : ℕ) : Type 0 where
+    pub formed : Formed (stepAt (p .language)) (sizeOf (p .language)) f from n
+    pub safe : p .Good q
     pub fits : used + n * limit.entry ≤ room
 
-  module _ (bytes : m .Entry → List ℕ) where
-    -- a run leaves what the replay of these steps leaves, with its entries in the log from `used` on
-    pub record Ended (f : List ℕ) (from n : ℕ) (q : m .State) (log : List ℕ) (used : ℕ) (e : Left m) : Type 0 where
-      pub ended : e ≡ left bytes log used (replay m q 0 (stepsFrom (stepAt l) (sizeOf l) f from n))
+  -- a run leaves what the replay of these steps leaves, with its entries in the log from `used` on
+  pub record Ended (f : List ℕ) (from n : ℕ) (q : p .machine .State) (log : List ℕ) (used : ℕ) (e : Left (p .machine)) : Type 0 where
+    pub ended : e ≡ left (p .bytes) log used (replay (p .machine) q 0 (stepsFrom (stepAt (p .language)) (sizeOf (p .language)) f from n))
 
-    -- bad parameters write nothing; from the machine that good ones make the rest of the file is replayed
-    abbrev pub restMade : (m .State → List ℕ) → ℕ → m .State → List ℕ → ℕ → List ℕ → List ℕ → Rested
-    restMade imageOf code s f from log image = cond (eqb code 0) (restFrom m l bytes imageOf s f from log image) (untouched code 0 log image)
+  -- the rest of the file, replayed from a state
+  abbrev pub restRun : p .machine .State → List ℕ → ℕ → List ℕ → List ℕ → Rested
+  restRun s f from log image = restFrom (p .machine) (p .language) (p .bytes) (p .image) s f from log image
+
+  -- bad parameters write nothing; from the machine that good ones make the rest of the file is replayed
+  abbrev pub restMade : ℕ → p .machine .State → List ℕ → ℕ → List ℕ → List ℕ → Rested
+  restMade c s f from log image = cond (eqb c 0) (restRun s f from log image) (untouched c 0 log image)

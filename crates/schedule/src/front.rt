@@ -1,10 +1,10 @@
 // A file up to its first step: its length, version, kind and parameters, codes 1 to 5.
-use super::codes;
 use super::kinds;
 use super::limits;
 use super::steps::Params;
+use machine::codes;
 ghost use mathlib.Core.Path.{_≡_};
-ghost use Rattle.schedule.specs.Front.{faultCode, faultPlace, openedOf, flatFront, lockFront, flagFront};
+ghost use Rattle.schedule.specs.Front.{faultCode, faultPlace, openedOf, flatFront, lockFront, flagFront, kindFront};
 
 // Why a file is no schedule.
 pub enum Fault {
@@ -62,8 +62,8 @@ pub fn front(file: &[u8]) -> Opened
         return Opened::Faulty(Fault::Length);
     }
     let body = file.len() - 3;
-    let told = rows::get2(file, 1);
-    if told as usize != body {
+    let length = rows::get2(file, 1);
+    if length as usize != body {
         return Opened::Faulty(Fault::Length);
     }
     if file[0] != VERSION {
@@ -72,7 +72,13 @@ pub fn front(file: &[u8]) -> Opened
     if limits::BODY < body {
         return Opened::Faulty(Fault::Body);
     }
-    let kind = file[3];
+    of_kind(file[3], file)
+}
+
+// A kind's parameters, behind its byte.
+fn of_kind(kind: u8, file: &[u8]) -> Opened
+    ensures { λ r. ⌜ r ≡ kindFront kind (now (file .entry)) ⌝ }
+{
     if kind == kinds::FLAT {
         return flat(file);
     }
@@ -82,7 +88,7 @@ pub fn front(file: &[u8]) -> Opened
     if kind == kinds::COUNTING {
         return Opened::Open {
             params: Params::Counting,
-            from: 4,
+            from: LEAST,
         };
     }
     if kind == kinds::FLAG {

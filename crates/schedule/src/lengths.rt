@@ -3,6 +3,20 @@ ghost use mathlib.Core.Path.{_≡_};
 ghost use Rattle.schedule.specs.Widths.{lengthOf, RowOf};
 ghost use Rattle.schedule.specs.Reading.{measuredAt};
 
+// What a step takes with its length byte, by what stands behind the length: the tag, then a client, cell or thread (who), then numbers (what).
+// specs/Widths.antt has each step's.
+pub const TAG: usize = 2;
+
+pub const TAG_WHO: usize = 3;
+
+pub const TAG_WHAT: usize = 6;
+
+pub const TAG_WHO_WHAT: usize = 7;
+
+pub const TAG_WHAT_WHAT: usize = 10;
+
+pub const TAG_WHO_WHAT_WHAT: usize = 11;
+
 // A row for each kind and a column for each tag, both from 0 on; 0 where there is no such step.
 const LENGTHS: [[u8; 9]; 5] = [
     [0, 0, 0, 0, 0, 0, 0, 0, 0],

@@ -1,6 +1,5 @@
 // The language of schedules: what a file says, or the one fault that it has.
 pub mod limits; // how large anything may be
-pub mod codes; // the number of each answer
 pub mod kinds; // the number of each kind
 pub mod steps; // the steps of each kind, and a file's parameters
 pub mod lengths; // the one table of step lengths, and how far the step at a place reaches

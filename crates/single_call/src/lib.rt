@@ -4,22 +4,42 @@ use counting::single as counting_single;
 use flag::single as flag_single;
 use flat::single as flat_single;
 use lock::single as lock_single;
+use machine::codes;
 use raw::counting_raw;
 use raw::flag_raw;
 use raw::flat_raw;
 use raw::lock_raw;
-use schedule::codes;
 use schedule::kinds;
 use schedule::read;
 use schedule::read::Found;
 use schedule::steps::Step;
 ghost use mathlib.Core.Path.{_≡_};
-ghost use Rattle.single_call.specs.Call.{askedBy, unlogged, Leaves, flatLeft, lockLeft, countingLeft, flagLeft, leftBy};
+ghost use Rattle.single_call.specs.Call.{askedBy, unlogged, StepLeaves, flatRaw, lockRaw, countingRaw, flagRaw, stepped, steppedBy, exported, ExportLeaves};
 
 // The entry's length, and the code: 0 where the step was accepted.
 pub struct Called {
     pub logged: usize,
     pub code: u8,
+}
+
+// The single step under its plain name: the code is answered, and `figures` gets the entry's length, four bytes, big-endian. With less room than
+// that nothing is done and the answer is 8.
+#[no_mangle]
+pub extern "C" fn ladlecomet_single(
+    kind: u8,
+    state: &mut [u8],
+    step: &[u8],
+    log: &mut [u8],
+    figures: &mut [u8],
+) -> u8
+    ensures { λ r. ⌜ ExportLeaves (exported kind (now (state .entry)) (now (step .entry)) (now (log .entry)) (now (figures .entry))) r (now (state .exit)) (now (log .exit)) (now (figures .exit)) ⌝ }
+{
+    if figures.len() < 4 {
+        return codes::ROOM;
+    }
+    let c = single_call(kind, state, step, log);
+    rows::put_last4(figures, 0, c.logged);
+    c.code
 }
 
 // What the step's bytes tell: one whole step of the kind that the first byte says and nothing behind it, or anything else.
@@ -29,7 +49,7 @@ enum Asked {
 }
 
 pub fn single_call(kind: u8, state: &mut [u8], step: &[u8], log: &mut [u8]) -> Called
-    ensures { λ r. ⌜ Leaves (leftBy kind (now (state .entry)) (askedBy (now (step .entry))) (now (log .entry))) (now (log .entry)) r (now (state .exit)) (now (log .exit)) ⌝ }
+    ensures { λ r. ⌜ StepLeaves (steppedBy kind (now (state .entry)) (askedBy (now (step .entry))) (now (log .entry))) (now (log .entry)) r (now (state .exit)) (now (log .exit)) ⌝ }
 {
     match step_of(step) {
         Asked::Malformed => quiet(codes::MALFORMED),
@@ -77,7 +97,7 @@ fn quiet(code: u8) -> Called
 // ---- one function for each machine, all of one shape
 
 fn flat_call(state: &mut [u8], x: Step, log: &mut [u8]) -> Called
-    ensures { λ r. ⌜ Leaves (flatLeft (now (state .entry)) x (now (log .entry))) (now (log .entry)) r (now (state .exit)) (now (log .exit)) ⌝ }
+    ensures { λ r. ⌜ StepLeaves (stepped flatRaw (now (state .entry)) x (now (log .entry))) (now (log .entry)) r (now (state .exit)) (now (log .exit)) ⌝ }
 {
     if state.len() != flat_raw::LENGTH {
         return quiet(codes::MALFORMED);
@@ -99,7 +119,7 @@ fn flat_call(state: &mut [u8], x: Step, log: &mut [u8]) -> Called
 }
 
 fn lock_call(state: &mut [u8], x: Step, log: &mut [u8]) -> Called
-    ensures { λ r. ⌜ Leaves (lockLeft (now (state .entry)) x (now (log .entry))) (now (log .entry)) r (now (state .exit)) (now (log .exit)) ⌝ }
+    ensures { λ r. ⌜ StepLeaves (stepped lockRaw (now (state .entry)) x (now (log .entry))) (now (log .entry)) r (now (state .exit)) (now (log .exit)) ⌝ }
 {
     if state.len() != lock_raw::LENGTH {
         return quiet(codes::MALFORMED);
@@ -121,7 +141,7 @@ fn lock_call(state: &mut [u8], x: Step, log: &mut [u8]) -> Called
 }
 
 fn counting_call(state: &mut [u8], x: Step, log: &mut [u8]) -> Called
-    ensures { λ r. ⌜ Leaves (countingLeft (now (state .entry)) x (now (log .entry))) (now (log .entry)) r (now (state .exit)) (now (log .exit)) ⌝ }
+    ensures { λ r. ⌜ StepLeaves (stepped countingRaw (now (state .entry)) x (now (log .entry))) (now (log .entry)) r (now (state .exit)) (now (log .exit)) ⌝ }
 {
     if state.len() != counting_raw::LENGTH {
         return quiet(codes::MALFORMED);
@@ -143,7 +163,7 @@ fn counting_call(state: &mut [u8], x: Step, log: &mut [u8]) -> Called
 }
 
 fn flag_call(state: &mut [u8], x: Step, log: &mut [u8]) -> Called
-    ensures { λ r. ⌜ Leaves (flagLeft (now (state .entry)) x (now (log .entry))) (now (log .entry)) r (now (state .exit)) (now (log .exit)) ⌝ }
+    ensures { λ r. ⌜ StepLeaves (stepped flagRaw (now (state .entry)) x (now (log .entry))) (now (log .entry)) r (now (state .exit)) (now (log .exit)) ⌝ }
 {
     if state.len() != flag_raw::LENGTH {
         return quiet(codes::MALFORMED);

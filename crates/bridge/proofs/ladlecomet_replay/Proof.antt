@@ -1,6 +1,6 @@
 -- `bridge::ladlecomet_replay` meets its contract: the replay, and its numbers told. Assumes nothing.
 use borrow.Author.Needs.{needs}
-use Rattle.bridge.proofs.Calls.{no-room, called}
+use Rattle.bridge.proofs.Calls.{no-room, replayed}
 use Rattle.bridge.proofs.ladlecomet_replay.Statement.{statement}
 use Rattle.bridge.proofs.ladlecomet_replay.Tie as tie
 
@@ -10,8 +10,8 @@ returns c = search no-room
 replay-requires : tie.Need-replay-requires
 replay-requires c κs = search needs
 
-tell-three-requires : tie.Need-tell-three-requires
-tell-three-requires c κs = search needs
+put-figures-requires : tie.Need-put-figures-requires
+put-figures-requires c κs = search needs
 
 same-length : tie.Need-same-length
 same-length c = search needs
@@ -23,7 +23,7 @@ same-length-3 : tie.Need-same-length-3
 same-length-3 c = search needs
 
 returns-2 : tie.Need-returns-2
-returns-2 c = search called
+returns-2 c = search replayed
 
 pub ladlecomet-replay-spec : {M : Type 1} → statement M
 ladlecomet-replay-spec =
@@ -31,7 +31,7 @@ ladlecomet-replay-spec =
     (tie.spec
     returns
     replay-requires
-    tell-three-requires
+    put-figures-requires
     same-length
     same-length-2
     same-length-3

@@ -1,7 +1,8 @@
 -- `counting_run::replayed` meets its contract: the room is tested, and the steps run are the file's. Assumes nothing.
 use borrow.Author.Needs.{needs}
-use Rattle.schedule.proofs.Running.{product}
-use Rattle.counting_run.proofs.Whole.{runnable, log-short, image-short, ran-leaves}
+use Rattle.schedule.proofs.Running.{product, runnable, log-short, image-short, ran-leaves}
+use Rattle.counting_run.specs.Run.{runner, leftBy}
+use Rattle.counting_run.proofs.Carried.{carries}
 use Rattle.counting_run.proofs.replayed.Statement.{statement}
 use Rattle.counting_run.proofs.replayed.Tie as tie
 
@@ -12,16 +13,16 @@ refused-requires : tie.Need-refused-requires
 refused-requires c κs = search needs
 
 returns : tie.Need-returns
-returns c = search log-short
+returns c = search (log-short runner carries)
 
 refused-requires-2 : tie.Need-refused-requires-2
 refused-requires-2 c κs = search needs
 
 returns-2 : tie.Need-returns-2
-returns-2 c = search image-short
+returns-2 c = search (image-short runner carries)
 
 run-requires : tie.Need-run-requires
-run-requires c κs = search runnable
+run-requires c κs = search (runnable runner carries)
 
 image-requires : tie.Need-image-requires
 image-requires c κs = search needs
@@ -33,7 +34,9 @@ same-length-2 : tie.Need-same-length-2
 same-length-2 c = search needs
 
 returns-3 : tie.Need-returns-3
-returns-3 c = search ran-leaves
+returns-3 c =
+    let ran = c .before .before .before .before .before .before .before .run in
+    ran-leaves runner carries _ _ _ _ _ _ (search needs) (search needs) (search needs) (leftBy (ran .result) _) (ran .ensures) _ _ (search needs)
 
 pub replayed-spec : {M : Type 1} → statement M
 replayed-spec =

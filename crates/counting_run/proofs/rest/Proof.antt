@@ -1,7 +1,8 @@
 -- `counting_run::rest` meets its contract: a fault is answered as it is counted, and else the steps are replayed. Assumes nothing.
 use borrow.Author.Needs.{needs}
-use Rattle.schedule.proofs.Running.{counts}
-use Rattle.counting_run.proofs.Whole.{fresh-good, faulty-leaves, rest-leaves}
+use Rattle.schedule.proofs.Running.{counts, faulty-leaves}
+use Rattle.counting_run.specs.Run.{runner}
+use Rattle.counting_run.proofs.Carried.{carries, fresh-good, fresh-leaves}
 use Rattle.counting_run.proofs.rest.Statement.{statement}
 use Rattle.counting_run.proofs.rest.Tie as tie
 
@@ -30,7 +31,7 @@ replayed-requires : tie.Need-replayed-requires
 replayed-requires c κs = search (counts, fresh-good)
 
 returns : tie.Need-returns
-returns c = search faulty-leaves
+returns c = search (faulty-leaves runner carries)
 
 same-length : tie.Need-same-length
 same-length c = search needs
@@ -39,7 +40,7 @@ same-length-2 : tie.Need-same-length-2
 same-length-2 c = search needs
 
 returns-2 : tie.Need-returns-2
-returns-2 c = search rest-leaves
+returns-2 c = search fresh-leaves
 
 pub rest-spec : {M : Type 1} → statement M
 rest-spec =

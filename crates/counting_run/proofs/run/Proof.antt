@@ -1,18 +1,21 @@
 -- `counting_run::run` meets its contract: each accepted step keeps what the rest of the run is to leave, and each way out is what the whole run leaves. Assumes nothing.
 use Prim.Native.Nat.{_-_}
 use borrow.Author.Needs.{needs}
-use Rattle.counting_run.proofs.Turns.{Runs, starts, ends, stops, write-turn, delete-turn, withdraw-turn, new-turn, six-on, six-more, two-on, two-more}
+use Rattle.schedule.proofs.Running.{Runs, starts, ends}
+use Rattle.counting_run.specs.Run.{runner}
+use Rattle.counting_run.proofs.Carried.{carries}
+use Rattle.counting_run.proofs.Turns.{stops, write-turn, delete-turn, withdraw-turn, new-turn, write-ahead, delete-ahead, withdraw-ahead, new-ahead}
 use Rattle.counting_run.proofs.run.Statement.{statement}
 use Rattle.counting_run.proofs.run.Tie as tie
 
 abbrev Inv-loop : tie.InvT-loop
-Inv-loop file from n log₀ used s₀ at₀ k₀ w₀ log s at k w = Runs file from n s₀ log₀ used log s at k w
+Inv-loop file from n log₀ used s₀ at₀ k₀ w₀ log s at k w = Runs runner carries file from n s₀ log₀ used log s at k w
 
 abbrev μ-loop : tie.MeasureT-loop
 μ-loop file from n log₀ used s₀ at₀ k₀ w₀ log s at k w = n - k
 
 loop-holds : tie.Need-loop-holds Inv-loop μ-loop
-loop-holds c = search starts
+loop-holds c = search (starts runner carries)
 
 counting-step-requires : tie.Need-counting-step-requires Inv-loop μ-loop
 counting-step-requires c κs = search needs
@@ -24,7 +27,7 @@ writeable-to-readable-requires : tie.Need-writeable-to-readable-requires Inv-loo
 writeable-to-readable-requires c κs = search needs
 
 add-at : tie.Need-add-at Inv-loop μ-loop
-add-at c = search six-on
+add-at c = search write-ahead
 
 add-k : tie.Need-add-k Inv-loop μ-loop
 add-k c = search needs
@@ -45,11 +48,7 @@ put-entry-requires : tie.Need-put-entry-requires Inv-loop μ-loop
 put-entry-requires c κs = search needs
 
 add-at-2 : tie.Need-add-at-2 Inv-loop μ-loop
-add-at-2 c =
-    let move = c .before .before .before .before .before .before .before in
-    let told = move .before in
-    let read = told .before .before in
-    two-on _ _ _ _ _ _ _ _ _ _ _ (read .before .before .loop .inv) (read .before .if1 .left) _ (read .counting-step .ensures) (told .enum-told .given .1)
+add-at-2 c = search withdraw-ahead
 
 add-k-2 : tie.Need-add-k-2 Inv-loop μ-loop
 add-k-2 c = search needs
@@ -58,14 +57,7 @@ loop-less-2 : tie.Need-loop-less-2 Inv-loop μ-loop
 loop-less-2 c = search needs
 
 loop-again-2 : tie.Need-loop-again-2 Inv-loop μ-loop
-loop-again-2 c =
-    let put = c .before .before .before in
-    let test = put .before .before in
-    let move = test .before .before in
-    let told = move .before in
-    let read = told .before .before in
-    withdraw-turn _ _ _ _ _ _ _ _ _ _ _ (read .before .before .loop .inv) (read .before .if1 .left) _ (read .counting-step .ensures) (told .enum-told .given .1)
-    _ (move .readable-to-writeable .ensures) (test .if3 .left) _ _ (put .put-entry .ensures)
+loop-again-2 c = search withdraw-turn
 
 enum-told-2 : tie.Need-enum-told-2 Inv-loop μ-loop
 enum-told-2 c = search needs
@@ -77,11 +69,7 @@ put-entry-requires-2 : tie.Need-put-entry-requires-2 Inv-loop μ-loop
 put-entry-requires-2 c κs = search needs
 
 add-at-3 : tie.Need-add-at-3 Inv-loop μ-loop
-add-at-3 c =
-    let move = c .before .before .before .before .before .before .before in
-    let told = move .before in
-    let read = told .before .before in
-    two-more _ _ _ _ _ _ _ _ _ _ _ (read .before .before .loop .inv) (read .before .if1 .left) _ (read .counting-step .ensures) (told .enum-told2 .given .1)
+add-at-3 c = search new-ahead
 
 add-k-3 : tie.Need-add-k-3 Inv-loop μ-loop
 add-k-3 c = search needs
@@ -90,14 +78,7 @@ loop-less-3 : tie.Need-loop-less-3 Inv-loop μ-loop
 loop-less-3 c = search needs
 
 loop-again-3 : tie.Need-loop-again-3 Inv-loop μ-loop
-loop-again-3 c =
-    let put = c .before .before .before in
-    let test = put .before .before in
-    let move = test .before .before in
-    let told = move .before in
-    let read = told .before .before in
-    new-turn _ _ _ _ _ _ _ _ _ _ _ (read .before .before .loop .inv) (read .before .if1 .left) _ (read .counting-step .ensures) (told .enum-told2 .given .1)
-    _ (move .new-ref .ensures) (test .if4 .left) _ _ (put .put-entry2 .ensures)
+loop-again-3 c = search new-turn
 
 enum-known-step-2 : tie.Need-enum-known-step-2 Inv-loop μ-loop
 enum-known-step-2 c = search needs
@@ -106,7 +87,7 @@ delete-ref-requires : tie.Need-delete-ref-requires Inv-loop μ-loop
 delete-ref-requires c κs = search needs
 
 add-at-4 : tie.Need-add-at-4 Inv-loop μ-loop
-add-at-4 c = search six-more
+add-at-4 c = search delete-ahead
 
 add-k-4 : tie.Need-add-k-4 Inv-loop μ-loop
 add-k-4 c = search needs
@@ -121,7 +102,7 @@ same-length : tie.Need-same-length Inv-loop μ-loop
 same-length c = search needs
 
 returns : tie.Need-returns Inv-loop μ-loop
-returns c = search ends
+returns c = search (ends runner carries)
 
 same-length-2 : tie.Need-same-length-2 Inv-loop μ-loop
 same-length-2 c = search needs

@@ -1,18 +1,23 @@
 -- `flag_run::run` meets its contract: each accepted step keeps what the rest of the run is to leave, and each way out is what the whole run leaves. Assumes nothing.
 use Prim.Native.Nat.{_-_}
 use borrow.Author.Needs.{needs}
-use Rattle.flag_run.proofs.Turns.{Runs, starts, ends, ahead, inside-row, begin-outside, begin-busy, begin-turn, move-outside, move-idle, move-turn, read-outside, read-busy, read-turn}
+use Rattle.schedule.proofs.Running.{Runs, starts, ends}
+use Rattle.flag.proofs.Arms.{begin-outside, begin-busy, begin-fair, move-outside, move-idle, read-outside, read-busy, read-fair}
+use Rattle.flag.proofs.Sounds.{means-sound}
+use Rattle.flag_run.specs.Run.{runner}
+use Rattle.flag_run.proofs.Carried.{carries}
+use Rattle.flag_run.proofs.Turns.{ahead, inside-row, refused, begin-turn, move-turn, read-turn}
 use Rattle.flag_run.proofs.run.Statement.{statement}
 use Rattle.flag_run.proofs.run.Tie as tie
 
 abbrev Inv-loop : tie.InvT-loop
-Inv-loop file from n log₀ used s₀ at₀ k₀ w₀ log s at k w = Runs file from n s₀ log₀ used log s at k w
+Inv-loop file from n log₀ used s₀ at₀ k₀ w₀ log s at k w = Runs runner carries file from n s₀ log₀ used log s at k w
 
 abbrev μ-loop : tie.MeasureT-loop
 μ-loop file from n log₀ used s₀ at₀ k₀ w₀ log s at k w = n - k
 
 loop-holds : tie.Need-loop-holds Inv-loop μ-loop
-loop-holds c = search starts
+loop-holds c = search (starts runner carries)
 
 flag-step-requires : tie.Need-flag-step-requires Inv-loop μ-loop
 flag-step-requires c κs = search needs
@@ -45,7 +50,7 @@ loop-less : tie.Need-loop-less Inv-loop μ-loop
 loop-less c = search needs
 
 loop-again : tie.Need-loop-again Inv-loop μ-loop
-loop-again c = search begin-turn
+loop-again c = search (begin-turn, begin-fair)
 
 enum-known-step-2 : tie.Need-enum-known-step-2 Inv-loop μ-loop
 enum-known-step-2 c = search needs
@@ -111,49 +116,49 @@ loop-less-3 : tie.Need-loop-less-3 Inv-loop μ-loop
 loop-less-3 c = search needs
 
 loop-again-3 : tie.Need-loop-again-3 Inv-loop μ-loop
-loop-again-3 c = search read-turn
+loop-again-3 c = search (read-turn, read-fair)
 
 same-length : tie.Need-same-length Inv-loop μ-loop
 same-length c = search needs
 
 returns : tie.Need-returns Inv-loop μ-loop
-returns c = search ends
+returns c = search (ends runner carries)
 
 same-length-2 : tie.Need-same-length-2 Inv-loop μ-loop
 same-length-2 c = search needs
 
 returns-2 : tie.Need-returns-2 Inv-loop μ-loop
-returns-2 c = search begin-outside
+returns-2 c = search (refused, begin-outside)
 
 same-length-3 : tie.Need-same-length-3 Inv-loop μ-loop
 same-length-3 c = search needs
 
 returns-3 : tie.Need-returns-3 Inv-loop μ-loop
-returns-3 c = search begin-busy
+returns-3 c = search (refused, begin-busy)
 
 same-length-4 : tie.Need-same-length-4 Inv-loop μ-loop
 same-length-4 c = search needs
 
 returns-4 : tie.Need-returns-4 Inv-loop μ-loop
-returns-4 c = search move-outside
+returns-4 c = search (refused, move-outside)
 
 same-length-5 : tie.Need-same-length-5 Inv-loop μ-loop
 same-length-5 c = search needs
 
 returns-5 : tie.Need-returns-5 Inv-loop μ-loop
-returns-5 c = search move-idle
+returns-5 c = search (refused, move-idle, means-sound)
 
 same-length-6 : tie.Need-same-length-6 Inv-loop μ-loop
 same-length-6 c = search needs
 
 returns-6 : tie.Need-returns-6 Inv-loop μ-loop
-returns-6 c = search read-outside
+returns-6 c = search (refused, read-outside)
 
 same-length-7 : tie.Need-same-length-7 Inv-loop μ-loop
 same-length-7 c = search needs
 
 returns-7 : tie.Need-returns-7 Inv-loop μ-loop
-returns-7 c = search read-busy
+returns-7 c = search (refused, read-busy)
 
 pub run-spec : {M : Type 1} → statement M
 run-spec =

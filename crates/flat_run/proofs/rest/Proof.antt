@@ -1,7 +1,8 @@
 -- `flat_run::rest` meets its contract: bad parameters and a fault are answered as they are, and else the steps are replayed. Assumes nothing.
 use borrow.Author.Needs.{needs}
-use Rattle.schedule.proofs.Running.{counts}
-use Rattle.flat_run.proofs.Whole.{fresh-good, bad-leaves, faulty-leaves, rest-leaves}
+use Rattle.schedule.proofs.Running.{counts, faulty-leaves}
+use Rattle.flat_run.specs.Run.{runner}
+use Rattle.flat_run.proofs.Carried.{carries, fresh-good, bad-rest, made-rest}
 use Rattle.flat_run.proofs.rest.Statement.{statement}
 use Rattle.flat_run.proofs.rest.Tie as tie
 
@@ -12,7 +13,7 @@ refused-requires : tie.Need-refused-requires
 refused-requires c κs = search needs
 
 returns : tie.Need-returns
-returns c = search bad-leaves
+returns c = search bad-rest
 
 count-requires : tie.Need-count-requires
 count-requires c κs = search needs
@@ -36,7 +37,7 @@ replayed-requires : tie.Need-replayed-requires
 replayed-requires c κs = search (counts, fresh-good)
 
 returns-2 : tie.Need-returns-2
-returns-2 c = search faulty-leaves
+returns-2 c = search (made-rest, faulty-leaves runner carries)
 
 same-length : tie.Need-same-length
 same-length c = search needs
@@ -45,7 +46,7 @@ same-length-2 : tie.Need-same-length-2
 same-length-2 c = search needs
 
 returns-3 : tie.Need-returns-3
-returns-3 c = search rest-leaves
+returns-3 c = search made-rest
 
 pub rest-spec : {M : Type 1} → statement M
 rest-spec =

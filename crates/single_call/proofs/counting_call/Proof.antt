@@ -1,5 +1,6 @@
 -- `single_call::counting_call` meets its contract: a state of another length is malformed, a refusal leaves it, and the state after an accepted step is laid over it. Assumes nothing.
 use borrow.Author.Needs.{needs}
+use Rattle.single_call.specs.Call.{countingRaw}
 use Rattle.single_call.proofs.Calling.{wrong-length, counting-refused, counting-accepted}
 use Rattle.single_call.proofs.counting_call.Statement.{statement}
 use Rattle.single_call.proofs.counting_call.Tie as tie
@@ -8,7 +9,7 @@ quiet-requires : tie.Need-quiet-requires
 quiet-requires c κs = search needs
 
 returns : tie.Need-returns
-returns c = search wrong-length
+returns c = search (wrong-length countingRaw)
 
 counting-from-requires : tie.Need-counting-from-requires
 counting-from-requires c κs = search needs

@@ -1,5 +1,6 @@
 -- `single_call::flag_call` meets its contract: a state of another length is malformed, a refusal leaves it, and the state after an accepted step is laid over it. Assumes nothing.
 use borrow.Author.Needs.{needs}
+use Rattle.single_call.specs.Call.{flagRaw}
 use Rattle.single_call.proofs.Calling.{wrong-length, flag-refused, flag-accepted}
 use Rattle.single_call.proofs.flag_call.Statement.{statement}
 use Rattle.single_call.proofs.flag_call.Tie as tie
@@ -8,7 +9,7 @@ quiet-requires : tie.Need-quiet-requires
 quiet-requires c κs = search needs
 
 returns : tie.Need-returns
-returns c = search wrong-length
+returns c = search (wrong-length flagRaw)
 
 flag-from-requires : tie.Need-flag-from-requires
 flag-from-requires c κs = search needs

@@ -1,6 +1,7 @@
 -- `single_call::flat_call` meets its contract: a state of another length is malformed, a refusal leaves it, and the state after an accepted step is laid over it. Assumes nothing.
 use borrow.Author.Needs.{needs}
 use Rattle.rows.proofs.Rows.{row-long}
+use Rattle.single_call.specs.Call.{flatRaw}
 use Rattle.single_call.proofs.Calling.{wrong-length, flat-refused, flat-accepted}
 use Rattle.single_call.proofs.flat_call.Statement.{statement}
 use Rattle.single_call.proofs.flat_call.Tie as tie
@@ -9,7 +10,7 @@ quiet-requires : tie.Need-quiet-requires
 quiet-requires c κs = search needs
 
 returns : tie.Need-returns
-returns c = search wrong-length
+returns c = search (wrong-length flatRaw)
 
 flat-from-requires : tie.Need-flat-from-requires
 flat-from-requires c κs = search needs

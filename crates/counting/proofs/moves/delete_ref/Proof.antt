@@ -11,10 +11,17 @@ sub-t9 : tie.Need-sub-t9
 sub-t9 c = search needs
 
 returns : tie.Need-returns
-returns c = rw (c .before .before .before .before .before .before .before .before .if1 .taken, lt-ltb _ _ (c .before .before .before .before .before .before .if2 .taken), eq-eqb _ _ (c .before .before .before .before .if3 .taken), lt-ltb _ _ (c .before .before .if4 .taken))
+returns c =
+    let movable = c .before .before in
+    let same = movable .before .before in
+    let held = same .before .before in
+    rw (held .before .before .if1 .taken, lt-ltb _ _ (held .if2 .taken), eq-eqb _ _ (same .if3 .taken), lt-ltb _ _ (movable .if4 .taken))
 
 returns-2 : tie.Need-returns-2
-returns-2 c = rw (c .before .before .before .before .before .before .if1 .taken, lt-ltb _ _ (c .before .before .before .before .if2 .taken), eq-eqb _ _ (c .before .before .if3 .taken), le-ltb _ _ (c .if4 .left))
+returns-2 c =
+    let same = c .before .before in
+    let held = same .before .before in
+    rw (held .before .before .if1 .taken, lt-ltb _ _ (held .if2 .taken), eq-eqb _ _ (same .if3 .taken), le-ltb _ _ (c .if4 .left))
 
 returns-3 : tie.Need-returns-3
 returns-3 c = rw (c .before .before .before .before .if1 .taken, lt-ltb _ _ (c .before .before .if2 .taken), ne-eqb _ _ (c .if3 .left))

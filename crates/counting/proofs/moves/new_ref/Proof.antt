@@ -11,7 +11,10 @@ add-t7 : tie.Need-add-t7
 add-t7 c = search needs
 
 returns : tie.Need-returns
-returns c = rw (c .before .before .before .before .before .before .if1 .taken, lt-ltb _ _ (c .before .before .before .before .if2 .taken), lt-ltb _ _ (c .before .before .if3 .taken))
+returns c =
+    let movable = c .before .before in
+    let below = movable .before .before in
+    rw (below .before .before .if1 .taken, lt-ltb _ _ (below .if2 .taken), lt-ltb _ _ (movable .if3 .taken))
 
 returns-2 : tie.Need-returns-2
 returns-2 c = rw (c .before .before .before .before .if1 .taken, lt-ltb _ _ (c .before .before .if2 .taken), le-ltb _ _ (c .if3 .left))

@@ -1,6 +1,6 @@
--- `counting::single::apply` meets its contract: arm by arm, what a transition answers is what the single step says of a sound state. Assumes nothing.
-use Rattle.counting.proofs.Answering.{write-arm, delete-arm, withdraw-refused, new-refused, withdraw-arm, new-arm}
+-- `counting::single::apply` meets its contract: each arm is its step's own answer. Assumes nothing.
 use borrow.Author.Needs.{needs}
+use Rattle.counting.proofs.Stepping.{silent-step, refused-step, logged-step}
 use Rattle.counting.proofs.single.apply.Statement.{statement}
 use Rattle.counting.proofs.single.apply.Tie as tie
 
@@ -32,7 +32,7 @@ settle-requires-3 : tie.Need-settle-requires-3
 settle-requires-3 c κs = search needs
 
 returns : tie.Need-returns
-returns c = search withdraw-refused
+returns c = search refused-step
 
 put-entry-requires : tie.Need-put-entry-requires
 put-entry-requires c κs = search needs
@@ -50,7 +50,7 @@ settle-requires-5 : tie.Need-settle-requires-5
 settle-requires-5 c κs = search needs
 
 returns-2 : tie.Need-returns-2
-returns-2 c = search new-refused
+returns-2 c = search refused-step
 
 put-entry-requires-2 : tie.Need-put-entry-requires-2
 put-entry-requires-2 c κs = search needs
@@ -59,22 +59,22 @@ settle-requires-6 : tie.Need-settle-requires-6
 settle-requires-6 c κs = search needs
 
 returns-3 : tie.Need-returns-3
-returns-3 c = search write-arm
+returns-3 c = search silent-step
 
 returns-4 : tie.Need-returns-4
-returns-4 c = search delete-arm
+returns-4 c = search silent-step
 
 same-length : tie.Need-same-length
 same-length c = search needs
 
 returns-5 : tie.Need-returns-5
-returns-5 c = search withdraw-arm
+returns-5 c = search logged-step
 
 same-length-2 : tie.Need-same-length-2
 same-length-2 c = search needs
 
 returns-6 : tie.Need-returns-6
-returns-6 c = search new-arm
+returns-6 c = search logged-step
 
 pub apply-spec : {M : Type 1} → statement M
 apply-spec =

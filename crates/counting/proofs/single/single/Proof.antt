@@ -1,6 +1,7 @@
--- `counting::single::single` meets its contract: a step of another kind is refused, one of this kind is tested. Assumes nothing.
-use Rattle.counting.proofs.Answering.{own-step, flat-foreign, lock-foreign, flag-foreign}
+-- `counting::single::single` meets its contract: a step of this kind is tested, one of another is refused. Assumes nothing.
 use borrow.Author.Needs.{needs}
+use Rattle.machine.proofs.Answering.{own-step, foreign}
+use Rattle.counting.specs.Single.{stepper}
 use Rattle.counting.proofs.single.single.Statement.{statement}
 use Rattle.counting.proofs.single.single.Tie as tie
 
@@ -29,19 +30,19 @@ quiet-requires-3 : tie.Need-quiet-requires-3
 quiet-requires-3 c κs = search needs
 
 returns : tie.Need-returns
-returns c = search flat-foreign
+returns c = search (foreign stepper)
 
 returns-2 : tie.Need-returns-2
-returns-2 c = search lock-foreign
+returns-2 c = search (foreign stepper)
 
 same-length : tie.Need-same-length
 same-length c = search needs
 
 returns-3 : tie.Need-returns-3
-returns-3 c = search own-step
+returns-3 c = search (own-step stepper)
 
 returns-4 : tie.Need-returns-4
-returns-4 c = search flag-foreign
+returns-4 c = search (foreign stepper)
 
 pub single-spec : {M : Type 1} → statement M
 single-spec =

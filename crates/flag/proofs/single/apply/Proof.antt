@@ -1,6 +1,7 @@
--- `flag::single::apply` meets its contract: each step is carried out by its own function. Assumes nothing.
+-- `flag::single::apply` meets its contract: each arm is its step's own answer. Assumes nothing.
 use borrow.Author.Needs.{needs}
-use Rattle.flag.proofs.Answering.{begin-arm, same-arm}
+use Rattle.machine.proofs.Answering.{matched, matched-silent}
+use Rattle.flag.specs.Single.{stepper}
 use Rattle.flag.proofs.single.apply.Statement.{statement}
 use Rattle.flag.proofs.single.apply.Tie as tie
 
@@ -13,29 +14,29 @@ begin-requires c κs = search needs
 enum-known-x-2 : tie.Need-enum-known-x-2
 enum-known-x-2 c = search needs
 
-go-requires : tie.Need-go-requires
-go-requires c κs = search needs
+move-on-requires : tie.Need-move-on-requires
+move-on-requires c κs = search needs
 
 enum-known-x-3 : tie.Need-enum-known-x-3
 enum-known-x-3 c = search needs
 
-see-requires : tie.Need-see-requires
-see-requires c κs = search needs
+read-requires : tie.Need-read-requires
+read-requires c κs = search needs
 
 returns : tie.Need-returns
-returns c = search begin-arm
+returns c = search (matched-silent stepper)
 
 same-length : tie.Need-same-length
 same-length c = search needs
 
 returns-2 : tie.Need-returns-2
-returns-2 c = search same-arm
+returns-2 c = search (matched stepper)
 
 same-length-2 : tie.Need-same-length-2
 same-length-2 c = search needs
 
 returns-3 : tie.Need-returns-3
-returns-3 c = search same-arm
+returns-3 c = search (matched stepper)
 
 pub apply-spec : {M : Type 1} → statement M
 apply-spec =
@@ -44,9 +45,9 @@ apply-spec =
     enum-known-x
     begin-requires
     enum-known-x-2
-    go-requires
+    move-on-requires
     enum-known-x-3
-    see-requires
+    read-requires
     returns
     same-length
     returns-2

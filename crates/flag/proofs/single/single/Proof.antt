@@ -1,6 +1,7 @@
--- `flag::single::single` meets its contract: a step of another kind is refused, one of this kind is tested. Assumes nothing.
+-- `flag::single::single` meets its contract: a step of this kind is tested, one of another is refused. Assumes nothing.
 use borrow.Author.Needs.{needs}
-use Rattle.flag.proofs.Answering.{own-step, flat-foreign, lock-foreign, counting-foreign}
+use Rattle.machine.proofs.Answering.{own-step, foreign}
+use Rattle.flag.specs.Single.{stepper}
 use Rattle.flag.proofs.single.single.Statement.{statement}
 use Rattle.flag.proofs.single.single.Tie as tie
 
@@ -29,19 +30,19 @@ tested-requires : tie.Need-tested-requires
 tested-requires c κs = search needs
 
 returns : tie.Need-returns
-returns c = search flat-foreign
+returns c = search (foreign stepper)
 
 returns-2 : tie.Need-returns-2
-returns-2 c = search lock-foreign
+returns-2 c = search (foreign stepper)
 
 returns-3 : tie.Need-returns-3
-returns-3 c = search counting-foreign
+returns-3 c = search (foreign stepper)
 
 same-length : tie.Need-same-length
 same-length c = search needs
 
 returns-4 : tie.Need-returns-4
-returns-4 c = search own-step
+returns-4 c = search (own-step stepper)
 
 pub single-spec : {M : Type 1} → statement M
 single-spec =

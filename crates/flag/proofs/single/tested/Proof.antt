@@ -1,6 +1,8 @@
--- `flag::single::tested` meets its contract: the log's room and the state are tested before the step. Assumes nothing.
+-- `flag::single::tested` meets its contract: the log's room and the state's soundness come before the machine's own tests. Assumes nothing.
 use borrow.Author.Needs.{needs}
-use Rattle.flag.proofs.Answering.{short-log, not-sound, sound-known}
+use Rattle.machine.proofs.Answering.{short-log, not-sound}
+use Rattle.flag.specs.Single.{stepper}
+use Rattle.flag.proofs.Stepping.{sound-known}
 use Rattle.flag.proofs.single.tested.Statement.{statement}
 use Rattle.flag.proofs.single.tested.Tie as tie
 
@@ -8,7 +10,7 @@ quiet-requires : tie.Need-quiet-requires
 quiet-requires c κs = search needs
 
 returns : tie.Need-returns
-returns c = search short-log
+returns c = search (short-log stepper)
 
 is-sound-requires : tie.Need-is-sound-requires
 is-sound-requires c κs = search needs
@@ -26,7 +28,7 @@ quiet-requires-2 : tie.Need-quiet-requires-2
 quiet-requires-2 c κs = search needs
 
 returns-3 : tie.Need-returns-3
-returns-3 c = search not-sound
+returns-3 c = search (not-sound stepper)
 
 pub tested-spec : {M : Type 1} → statement M
 tested-spec =

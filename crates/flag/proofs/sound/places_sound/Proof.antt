@@ -45,8 +45,8 @@ loop-again c = search walking-more
 returns : tie.Need-returns Inv-loop μ-loop
 returns c = search walking-stops
 
-hands-requires : tie.Need-hands-requires Inv-loop μ-loop
-hands-requires c κs = search walking-few
+handshake-requires : tie.Need-handshake-requires Inv-loop μ-loop
+handshake-requires c κs = search walking-few
 
 returns-2 : tie.Need-returns-2 Inv-loop μ-loop
 returns-2 c = search walking-ends
@@ -68,5 +68,5 @@ places-sound-spec =
     loop-less
     loop-again
     returns
-    hands-requires
+    handshake-requires
     returns-2)

@@ -1,6 +1,7 @@
 -- `flat::single::apply` meets its contract: each arm is its step's own answer. Assumes nothing.
 use borrow.Author.Needs.{needs}
-use Rattle.flat.proofs.Answering.{send-arm, gather-arm, skip-arm, respond-arm, answer-arm, pass-arm, collect-arm, matched}
+use Rattle.machine.proofs.Answering.{matched, matched-silent}
+use Rattle.flat.specs.Single.{stepper}
 use Rattle.flat.proofs.single.apply.Statement.{statement}
 use Rattle.flat.proofs.single.apply.Tie as tie
 
@@ -53,31 +54,31 @@ go-to-collecting-requires : tie.Need-go-to-collecting-requires
 go-to-collecting-requires c κs = search needs
 
 returns : tie.Need-returns
-returns c = search send-arm
+returns c = search (matched-silent stepper)
 
 same-length : tie.Need-same-length
 same-length c = search needs
 
 returns-2 : tie.Need-returns-2
-returns-2 c = search matched
+returns-2 c = search (matched stepper)
 
 returns-3 : tie.Need-returns-3
-returns-3 c = search gather-arm
+returns-3 c = search (matched-silent stepper)
 
 returns-4 : tie.Need-returns-4
-returns-4 c = search skip-arm
+returns-4 c = search (matched-silent stepper)
 
 returns-5 : tie.Need-returns-5
-returns-5 c = search respond-arm
+returns-5 c = search (matched-silent stepper)
 
 returns-6 : tie.Need-returns-6
-returns-6 c = search answer-arm
+returns-6 c = search (matched-silent stepper)
 
 returns-7 : tie.Need-returns-7
-returns-7 c = search pass-arm
+returns-7 c = search (matched-silent stepper)
 
 returns-8 : tie.Need-returns-8
-returns-8 c = search collect-arm
+returns-8 c = search (matched-silent stepper)
 
 pub apply-spec : {M : Type 1} → statement M
 apply-spec =

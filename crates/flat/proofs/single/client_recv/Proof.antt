@@ -29,8 +29,8 @@ quiet-requires-2 c κs = search needs
 returns-2 : tie.Need-returns-2
 returns-2 c = search recv-refused
 
-put-answer-requires : tie.Need-put-answer-requires
-put-answer-requires c κs = search needs
+put-entry-requires : tie.Need-put-entry-requires
+put-entry-requires c κs = search needs
 
 with-client-requires : tie.Need-with-client-requires
 with-client-requires c κs = search client-inside
@@ -53,7 +53,7 @@ client-recv-spec =
     client-recv-requires
     quiet-requires-2
     returns-2
-    put-answer-requires
+    put-entry-requires
     with-client-requires
     same-length
     returns-3)

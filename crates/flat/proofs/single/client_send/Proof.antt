@@ -1,7 +1,9 @@
 -- `flat::single::client_send` meets its contract: the place's test, and then the client. Assumes nothing.
 use borrow.Author.Needs.{needs}
+use Rattle.machine.proofs.Answering.{quiet-refused, quiet-fair}
+use Rattle.flat.specs.Single.{stepper}
 use Rattle.flat.proofs.Moved.{client-inside}
-use Rattle.flat.proofs.Stepping.{send-stopped, sends}
+use Rattle.flat.proofs.Arms.{stopped, send-fair}
 use Rattle.flat.proofs.single.client_send.Statement.{statement}
 use Rattle.flat.proofs.single.client_send.Tie as tie
 
@@ -12,7 +14,7 @@ quiet-requires : tie.Need-quiet-requires
 quiet-requires c κs = search needs
 
 returns : tie.Need-returns
-returns c = search send-stopped
+returns c = search (quiet-refused stepper, stopped)
 
 mul-c : tie.Need-mul-c
 mul-c c = search needs
@@ -27,7 +29,7 @@ with-client-requires : tie.Need-with-client-requires
 with-client-requires c κs = search client-inside
 
 returns-2 : tie.Need-returns-2
-returns-2 c = search sends
+returns-2 c = search (quiet-fair stepper, send-fair)
 
 pub client-send-spec : {M : Type 1} → statement M
 client-send-spec =

@@ -1,7 +1,9 @@
 -- `flat::single::combiner_recv` meets its contract: the combiner's tests, then the slot of the client at the cursor, whose request soundness promises. Assumes nothing.
 use borrow.Author.Needs.{needs}
+use Rattle.machine.proofs.Answering.{quiet-refused, quiet-fair}
+use Rattle.flat.specs.Single.{stepper}
 use Rattle.flat.proofs.Moved.{gather-inside, gather-fits}
-use Rattle.flat.proofs.Stepping.{gather-stopped, gather-refused, gathers}
+use Rattle.flat.proofs.Arms.{stopped, gather-code, gather-fair}
 use Rattle.flat.proofs.single.combiner_recv.Statement.{statement}
 use Rattle.flat.proofs.single.combiner_recv.Tie as tie
 
@@ -12,7 +14,7 @@ quiet-requires : tie.Need-quiet-requires
 quiet-requires c κs = search needs
 
 returns : tie.Need-returns
-returns c = search gather-stopped
+returns c = search (quiet-refused stepper, stopped)
 
 cast-i : tie.Need-cast-i
 cast-i c = search needs
@@ -30,7 +32,7 @@ quiet-requires-2 : tie.Need-quiet-requires-2
 quiet-requires-2 c κs = search needs
 
 returns-2 : tie.Need-returns-2
-returns-2 c = search gather-refused
+returns-2 c = search (quiet-refused stepper, gather-code)
 
 mul-d : tie.Need-mul-d
 mul-d c = search needs
@@ -51,7 +53,7 @@ quiet-requires-3 : tie.Need-quiet-requires-3
 quiet-requires-3 c κs = search needs
 
 returns-3 : tie.Need-returns-3
-returns-3 c = search gathers
+returns-3 c = search (quiet-fair stepper, gather-fair)
 
 pub combiner-recv-spec : {M : Type 1} → statement M
 combiner-recv-spec =

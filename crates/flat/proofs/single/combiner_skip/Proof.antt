@@ -1,7 +1,9 @@
 -- `flat::single::combiner_skip` meets its contract: the combiner's tests decide, and soundness puts the cursor inside the row. Assumes nothing.
 use borrow.Author.Needs.{needs}
+use Rattle.machine.proofs.Answering.{quiet-refused, quiet-fair}
+use Rattle.flat.specs.Single.{stepper}
 use Rattle.flat.proofs.Moved.{gather-inside, gather-fits}
-use Rattle.flat.proofs.Stepping.{skip-stopped, skips}
+use Rattle.flat.proofs.Arms.{skip-fair}
 use Rattle.flat.proofs.single.combiner_skip.Statement.{statement}
 use Rattle.flat.proofs.single.combiner_skip.Tie as tie
 
@@ -12,7 +14,7 @@ quiet-requires : tie.Need-quiet-requires
 quiet-requires c κs = search needs
 
 returns : tie.Need-returns
-returns c = search skip-stopped
+returns c = search (quiet-refused stepper)
 
 cast-i : tie.Need-cast-i
 cast-i c = search needs
@@ -33,7 +35,7 @@ quiet-requires-2 : tie.Need-quiet-requires-2
 quiet-requires-2 c κs = search needs
 
 returns-2 : tie.Need-returns-2
-returns-2 c = search skips
+returns-2 c = search (quiet-fair stepper, skip-fair)
 
 pub combiner-skip-spec : {M : Type 1} → statement M
 combiner-skip-spec =

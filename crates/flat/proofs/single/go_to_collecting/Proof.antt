@@ -1,6 +1,8 @@
 -- `flat::single::go_to_collecting` meets its contract: the combiner's tests decide. Assumes nothing.
 use borrow.Author.Needs.{needs}
-use Rattle.flat.proofs.Stepping.{collect-stopped, collects}
+use Rattle.machine.proofs.Answering.{quiet-refused, quiet-fair}
+use Rattle.flat.specs.Single.{stepper}
+use Rattle.flat.proofs.Arms.{collect-fair}
 use Rattle.flat.proofs.single.go_to_collecting.Statement.{statement}
 use Rattle.flat.proofs.single.go_to_collecting.Tie as tie
 
@@ -11,7 +13,7 @@ quiet-requires : tie.Need-quiet-requires
 quiet-requires c κs = search needs
 
 returns : tie.Need-returns
-returns c = search collect-stopped
+returns c = search (quiet-refused stepper)
 
 no-elem-requires : tie.Need-no-elem-requires
 no-elem-requires c κs = search needs
@@ -20,7 +22,7 @@ quiet-requires-2 : tie.Need-quiet-requires-2
 quiet-requires-2 c κs = search needs
 
 returns-2 : tie.Need-returns-2
-returns-2 c = search collects
+returns-2 c = search (quiet-fair stepper, collect-fair)
 
 pub go-to-collecting-spec : {M : Type 1} → statement M
 go-to-collecting-spec =

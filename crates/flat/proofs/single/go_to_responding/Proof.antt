@@ -1,6 +1,8 @@
 -- `flat::single::go_to_responding` meets its contract: the combiner's tests decide. Assumes nothing.
 use borrow.Author.Needs.{needs}
-use Rattle.flat.proofs.Stepping.{respond-stopped, responds}
+use Rattle.machine.proofs.Answering.{quiet-refused, quiet-fair}
+use Rattle.flat.specs.Single.{stepper}
+use Rattle.flat.proofs.Arms.{respond-fair}
 use Rattle.flat.proofs.single.go_to_responding.Statement.{statement}
 use Rattle.flat.proofs.single.go_to_responding.Tie as tie
 
@@ -11,13 +13,13 @@ quiet-requires : tie.Need-quiet-requires
 quiet-requires c κs = search needs
 
 returns : tie.Need-returns
-returns c = search respond-stopped
+returns c = search (quiet-refused stepper)
 
 quiet-requires-2 : tie.Need-quiet-requires-2
 quiet-requires-2 c κs = search needs
 
 returns-2 : tie.Need-returns-2
-returns-2 c = search responds
+returns-2 c = search (quiet-fair stepper, respond-fair)
 
 pub go-to-responding-spec : {M : Type 1} → statement M
 go-to-responding-spec =

@@ -1,6 +1,7 @@
 -- `flat::single::single` meets its contract: a step of this kind is tested, any other is malformed. Assumes nothing.
 use borrow.Author.Needs.{needs}
-use Rattle.flat.proofs.Answering.{own-step, lock-foreign, counting-foreign, flag-foreign}
+use Rattle.machine.proofs.Answering.{own-step, foreign}
+use Rattle.flat.specs.Single.{stepper}
 use Rattle.flat.proofs.single.single.Statement.{statement}
 use Rattle.flat.proofs.single.single.Tie as tie
 
@@ -32,16 +33,16 @@ same-length : tie.Need-same-length
 same-length c = search needs
 
 returns : tie.Need-returns
-returns c = search own-step
+returns c = search (own-step stepper)
 
 returns-2 : tie.Need-returns-2
-returns-2 c = search lock-foreign
+returns-2 c = search (foreign stepper)
 
 returns-3 : tie.Need-returns-3
-returns-3 c = search counting-foreign
+returns-3 c = search (foreign stepper)
 
 returns-4 : tie.Need-returns-4
-returns-4 c = search flag-foreign
+returns-4 c = search (foreign stepper)
 
 pub single-spec : {M : Type 1} → statement M
 single-spec =

@@ -17,10 +17,24 @@ returns-4 : tie.Need-returns-4
 returns-4 c = rw (c .before .before .before .before .if1 .left, c .before .before .before .if2 .left, c .before .before .if3 .left, ne-eqb _ _ (c .if4 .taken))
 
 returns-5 : tie.Need-returns-5
-returns-5 c = rw (c .before .before .before .before .before .before .if1 .left, c .before .before .before .before .before .if2 .left, c .before .before .before .before .if3 .left, eq-eqb _ _ (c .before .before .if4 .left), ne-eqb _ _ (c .if5 .taken))
+returns-5 c =
+    rw (
+      c .before .before .before .before .before .before .if1 .left,
+      c .before .before .before .before .before .if2 .left,
+      c .before .before .before .before .if3 .left,
+      eq-eqb _ _ (c .before .before .if4 .left),
+      ne-eqb _ _ (c .if5 .taken),
+    )
 
 returns-6 : tie.Need-returns-6
-returns-6 c = rw (c .before .before .before .before .before .before .before .if1 .left, c .before .before .before .before .before .before .if2 .left, c .before .before .before .before .before .if3 .left, eq-eqb _ _ (c .before .before .before .if4 .left), eq-eqb _ _ (c .before .if5 .left))
+returns-6 c =
+    rw (
+      c .before .before .before .before .before .before .before .if1 .left,
+      c .before .before .before .before .before .before .if2 .left,
+      c .before .before .before .before .before .if3 .left,
+      eq-eqb _ _ (c .before .before .before .if4 .left),
+      eq-eqb _ _ (c .before .if5 .left),
+    )
 
 pub resting-spec : {M : Type 1} → statement M
 resting-spec = tie.close (tie.spec returns returns-2 returns-3 returns-4 returns-5 returns-6)

@@ -4,8 +4,8 @@ use Rattle.lines.proofs.Spelling.{decimal-short, decimal-far, decimal-l
 use Rattle.lines.proofs.decimal.put_decimal.Statement.{statement}
 use Rattle.lines.proofs.decimal.put_decimal.Tie as tie
 
-places-of-requires : tie.Need-places-of-requires
-places-of-requires c κs = search needs
+digit-count-requires : tie.Need-digit-count-requires
+digit-count-requires c κs = search needs
 
 returns : tie.Need-returns
 returns c = search (needs, decimal-short)
@@ -29,7 +29,7 @@ pub put-decimal-spec : {M : Type 1} → statement M
 put-decimal-spec =
     tie.close
     (tie.spec
-    places-of-requires
+    digit-count-requires
     returns
     sub-if2
     returns-2

@@ -11,10 +11,22 @@ sub-t10 : tie.Need-sub-t10
 sub-t10 c = search needs
 
 returns : tie.Need-returns
-returns c = rw (lt-ltb _ _ (c .before .before .before .before .before .before .before .if1 .taken), c .before .before .before .before .before .before .if2 .taken, eq-eqb _ _ (c .before .before .before .before .if3 .taken), lt-ltb _ _ (c .before .before .if4 .taken))
+returns c =
+    rw (
+      lt-ltb _ _ (c .before .before .before .before .before .before .before .if1 .taken),
+      c .before .before .before .before .before .before .if2 .taken,
+      eq-eqb _ _ (c .before .before .before .before .if3 .taken),
+      lt-ltb _ _ (c .before .before .if4 .taken),
+    )
 
 returns-2 : tie.Need-returns-2
-returns-2 c = rw (lt-ltb _ _ (c .before .before .before .before .before .if1 .taken), c .before .before .before .before .if2 .taken, eq-eqb _ _ (c .before .before .if3 .taken), le-ltb _ _ (c .if4 .left))
+returns-2 c =
+    rw (
+      lt-ltb _ _ (c .before .before .before .before .before .if1 .taken),
+      c .before .before .before .before .if2 .taken,
+      eq-eqb _ _ (c .before .before .if3 .taken),
+      le-ltb _ _ (c .if4 .left),
+    )
 
 returns-3 : tie.Need-returns-3
 returns-3 c = rw (lt-ltb _ _ (c .before .before .before .if1 .taken), c .before .before .if2 .taken, ne-eqb _ _ (c .if3 .left))

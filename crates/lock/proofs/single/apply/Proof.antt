@@ -1,6 +1,7 @@
 -- `lock::single::apply` meets its contract: each arm is its step's own answer. Assumes nothing.
 use borrow.Author.Needs.{needs}
-use Rattle.lock.proofs.Answering.{start-arm, check-arm, release-arm, announce-arm, leave-arm, matched}
+use Rattle.machine.proofs.Answering.{matched, matched-silent}
+use Rattle.lock.specs.Single.{stepper}
 use Rattle.lock.proofs.single.apply.Statement.{statement}
 use Rattle.lock.proofs.single.apply.Tie as tie
 
@@ -47,31 +48,31 @@ shared-release-requires : tie.Need-shared-release-requires
 shared-release-requires c κs = search needs
 
 returns : tie.Need-returns
-returns c = search start-arm
+returns c = search (matched-silent stepper)
 
 returns-2 : tie.Need-returns-2
-returns-2 c = search check-arm
+returns-2 c = search (matched-silent stepper)
 
 same-length : tie.Need-same-length
 same-length c = search needs
 
 returns-3 : tie.Need-returns-3
-returns-3 c = search matched
+returns-3 c = search (matched stepper)
 
 returns-4 : tie.Need-returns-4
-returns-4 c = search release-arm
+returns-4 c = search (matched-silent stepper)
 
 returns-5 : tie.Need-returns-5
-returns-5 c = search announce-arm
+returns-5 c = search (matched-silent stepper)
 
 same-length-2 : tie.Need-same-length-2
 same-length-2 c = search needs
 
 returns-6 : tie.Need-returns-6
-returns-6 c = search matched
+returns-6 c = search (matched stepper)
 
 returns-7 : tie.Need-returns-7
-returns-7 c = search leave-arm
+returns-7 c = search (matched-silent stepper)
 
 pub apply-spec : {M : Type 1} → statement M
 apply-spec =

@@ -1,7 +1,9 @@
 -- `lock::single::exc_check_count` meets its contract: the head's tests, and then the cell at the cursor, which soundness puts inside the row. Assumes nothing.
 use borrow.Author.Needs.{needs}
+use Rattle.machine.proofs.Answering.{quiet-refused, quiet-fair}
+use Rattle.lock.specs.Single.{stepper}
 use Rattle.lock.proofs.Moved.{cursor-inside}
-use Rattle.lock.proofs.Stepping.{check-stopped, checked}
+use Rattle.lock.proofs.Arms.{head-stops, exc-check-fair}
 use Rattle.lock.proofs.single.exc_check_count.Statement.{statement}
 use Rattle.lock.proofs.single.exc_check_count.Tie as tie
 
@@ -12,7 +14,7 @@ quiet-requires : tie.Need-quiet-requires
 quiet-requires c κs = search needs
 
 returns : tie.Need-returns
-returns c = search check-stopped
+returns c = search (quiet-refused stepper, head-stops)
 
 cast-i : tie.Need-cast-i
 cast-i c = search needs
@@ -30,7 +32,7 @@ with-head-requires : tie.Need-with-head-requires
 with-head-requires c κs = search needs
 
 returns-2 : tie.Need-returns-2
-returns-2 c = search checked
+returns-2 c = search (quiet-fair stepper, exc-check-fair)
 
 pub exc-check-count-spec : {M : Type 1} → statement M
 exc-check-count-spec =

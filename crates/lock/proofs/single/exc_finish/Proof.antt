@@ -1,6 +1,9 @@
 -- `lock::single::exc_finish` meets its contract: the moved head decides, and the entry lies over the front of the log. Assumes nothing.
 use borrow.Author.Needs.{needs}
-use Rattle.lock.proofs.Stepping.{withdraw-stopped, withdrawn}
+use Rattle.machine.proofs.Answering.{fair-refused, fair-accepted}
+use Rattle.lock.specs.Single.{stepper}
+use Rattle.lock.proofs.Arms.{exc-finish-fair}
+use Rattle.lock.proofs.Writes.{logs-short}
 use Rattle.lock.proofs.single.exc_finish.Statement.{statement}
 use Rattle.lock.proofs.single.exc_finish.Tie as tie
 
@@ -11,7 +14,7 @@ quiet-requires : tie.Need-quiet-requires
 quiet-requires c κs = search needs
 
 returns : tie.Need-returns
-returns c = search withdraw-stopped
+returns c = search (fair-refused stepper, exc-finish-fair)
 
 put-entry-requires : tie.Need-put-entry-requires
 put-entry-requires c κs = search needs
@@ -23,7 +26,7 @@ same-length : tie.Need-same-length
 same-length c = search needs
 
 returns-2 : tie.Need-returns-2
-returns-2 c = search withdrawn
+returns-2 c = search (fair-accepted stepper, exc-finish-fair, logs-short)
 
 pub exc-finish-spec : {M : Type 1} → statement M
 exc-finish-spec =

@@ -1,7 +1,9 @@
 -- `lock::single::shared_release` meets its contract: the place's test, and then the cell, whose numbers soundness keeps in range. Assumes nothing.
 use borrow.Author.Needs.{needs}
+use Rattle.machine.proofs.Answering.{quiet-refused, quiet-fair}
+use Rattle.lock.specs.Single.{stepper}
 use Rattle.lock.proofs.Moved.{cell-inside}
-use Rattle.lock.proofs.Stepping.{leave-stopped, leaves}
+use Rattle.lock.proofs.Arms.{head-stops, shared-release-fair}
 use Rattle.lock.proofs.single.shared_release.Statement.{statement}
 use Rattle.lock.proofs.single.shared_release.Tie as tie
 
@@ -12,7 +14,7 @@ quiet-requires : tie.Need-quiet-requires
 quiet-requires c κs = search needs
 
 returns : tie.Need-returns
-returns c = search leave-stopped
+returns c = search (quiet-refused stepper, head-stops)
 
 mul-c : tie.Need-mul-c
 mul-c c = search needs
@@ -27,7 +29,7 @@ with-cell-requires : tie.Need-with-cell-requires
 with-cell-requires c κs = search cell-inside
 
 returns-2 : tie.Need-returns-2
-returns-2 c = search leaves
+returns-2 c = search (quiet-fair stepper, shared-release-fair)
 
 pub shared-release-spec : {M : Type 1} → statement M
 shared-release-spec =

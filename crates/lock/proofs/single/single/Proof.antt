@@ -1,6 +1,7 @@
 -- `lock::single::single` meets its contract: a step of this kind is tested, one of another is refused. Assumes nothing.
 use borrow.Author.Needs.{needs}
-use Rattle.lock.proofs.Answering.{own-step, flat-foreign, counting-foreign, flag-foreign}
+use Rattle.machine.proofs.Answering.{own-step, foreign}
+use Rattle.lock.specs.Single.{stepper}
 use Rattle.lock.proofs.single.single.Statement.{statement}
 use Rattle.lock.proofs.single.single.Tie as tie
 
@@ -29,19 +30,19 @@ quiet-requires-3 : tie.Need-quiet-requires-3
 quiet-requires-3 c κs = search needs
 
 returns : tie.Need-returns
-returns c = search flat-foreign
+returns c = search (foreign stepper)
 
 same-length : tie.Need-same-length
 same-length c = search needs
 
 returns-2 : tie.Need-returns-2
-returns-2 c = search own-step
+returns-2 c = search (own-step stepper)
 
 returns-3 : tie.Need-returns-3
-returns-3 c = search counting-foreign
+returns-3 c = search (foreign stepper)
 
 returns-4 : tie.Need-returns-4
-returns-4 c = search flag-foreign
+returns-4 c = search (foreign stepper)
 
 pub single-spec : {M : Type 1} → statement M
 single-spec =

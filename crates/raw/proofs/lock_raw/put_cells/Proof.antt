@@ -6,7 +6,8 @@ use Rattle.rows.proofs.Rows.{row-long}
 use Rattle.rows.proofs.Laying.{Laying, laying-begins, laying-more}
 use Rattle.schedule.specs.Limits as limit
 use Rattle.lock.specs.Lock.{zeroCell}
-use Rattle.raw.specs.Raw.{cellBytes}
+use Rattle.lock.specs.Image.{cellBytes}
+use Rattle.raw.specs.Raw.{}
 use Rattle.raw.proofs.Writes.{laying-all}
 use Rattle.raw.proofs.lock_raw.put_cells.Statement.{statement}
 use Rattle.raw.proofs.lock_raw.put_cells.Tie as tie

@@ -1,0 +1,84 @@
+-- An accepted step of a sound state does what the source says: it leads where the source's transition leads, and there alone; it logs what the source
+-- hands out; and what the source deposits and withdraws is safe. Assumes nothing.
+use Prim.Native.Nat.{ℕ}
+use mathlib.Core.Path.{_≡_, refl, sym, _∙_}
+use mathlib.Core.Bool.{Bool, true, false}
+use mathlib.Core.Option.{Option}
+use borrow.Author.Tests.{eqb-true, ltb-true}
+use Rattle.rows.proofs.Cases.{clash}
+use Rattle.machine.specs.Machine.{Accepted}
+use Rattle.machine.specs.Multiset.{Multiset}
+use Rattle.machine.proofs.Multisets.{insert-at-only, remove-at-only}
+use Rattle.schedule.specs.declared.steps.CountingStep.{CountingStep}
+use Rattle.schedule.specs.declared.steps.CountingStep.the-variants.{WriteableToReadable, ReadableToWriteable, NewRef, DeleteRef}
+use Rattle.counting.specs.Source as source
+use Rattle.counting.specs.Source.{CountingPermissions, Transition, Moves, Safe}
+use Rattle.counting.specs.Counting.{counting, next, logs}
+use Rattle.counting.specs.Refined.{abs, label, Sound, HandsOut}
+use Rattle.counting.specs.declared.state.State.{State}
+use Rattle.counting.proofs.Inductive.{same-counter, safe}
+use Rattle.counting.proofs.Sounds.{state, none-same, counted-none}
+
+-- two states of the source are equal by their fields, the references pointwise
+pub same-permissions : {o o′ : Option ℕ} {k k′ : Option (ℕ × ℕ)} {f f′ : Multiset ℕ} → o ≡ o′ → k ≡ k′ → ((u : ℕ) → f u ≡ f′ u)
+    → _≡_ {A = CountingPermissions} (record { stored = o; main-counter = k; read-ref = f }) (record { stored = o′; main-counter = k′; read-ref = f′ })
+same-permissions p q r = λ i. record { stored = p i; main-counter = q i; read-ref = λ u. r u i }
+
+-- ---------- an accepted step is the source's transition, to what the state after it stands for
+
+moves : (b : Bool) (t count refs : ℕ) (x : CountingStep) → let s = state b t count refs in
+    Sound s → Accepted counting s x → Moves (abs s) (label x) (abs (next s x))
+moves true t count refs (WriteableToReadable t1) k a = clash (cc (a .0))
+moves false t count refs (WriteableToReadable t1) k a =
+    record { require = refl; update = same-permissions refl refl (none-same t1 t refs (k .unused refl .2)) }
+moves false t count refs ReadableToWriteable k a = clash (cc (a .0))
+moves true t count refs ReadableToWriteable k a =
+    record {
+      count = count;
+      t = t;
+      require = refl;
+      require-zero = eqb-true count 0 (a .1 .0);
+      update = same-permissions refl refl (none-same 0 t refs (counted-none (state true t count refs) k refl (a .1 .0)));
+    }
+moves false t count refs NewRef k a = clash (cc (a .0))
+moves true t count refs NewRef k a =
+    record { count = count; t = t; require = refl; update = same-permissions refl refl (λ u. sym (insert-at-only t refs u)) }
+moves false t count refs (DeleteRef t1) k a = clash (cc (a .0))
+moves true t count refs (DeleteRef t1) k a =
+    let q = eqb-true t1 t (a .1 .1 .0) in
+    record {
+      count = count;
+      t2 = t;
+      removes = rw (a .1 .1 .0) (ltb-true 0 refs (a .1 .0));
+      require = refl;
+      update = rw q (same-permissions refl refl (λ u. sym (remove-at-only t refs u)));
+    }
+
+pub accepted-moves : (s : State) (x : CountingStep) → Sound s → Accepted counting s x → Moves (abs s) (label x) (abs (next s x))
+accepted-moves s x k a = moves (s .present) (s .t) (s .count) (s .refs) x k a
+
+-- ---------- a transition has one state after it
+
+moves-one : (l : Transition) (m p q : CountingPermissions) → Moves m l p → Moves m l q → p ≡ q
+moves-one (source.writeable-to-readable t) m p q v w = v .update ∙ sym (w .update)
+moves-one source.readable-to-writeable m p q v w = v .update ∙ sym (w .update)
+moves-one source.new-ref m p q v w =
+    let k = same-counter (sym (v .require) ∙ w .require) in
+    rw (v .update, w .update, k .0, k .1)
+moves-one (source.delete-ref t1) m p q v w =
+    rw (v .update, w .update, same-counter (sym (v .require) ∙ w .require) .0)
+
+pub accepted-post : (s : State) (x : CountingStep) (to : CountingPermissions) → Sound s → Accepted counting s x → Moves (abs s) (label x) to
+    → to ≡ abs (next s x)
+accepted-post s x to k a v = moves-one (label x) (abs s) to (abs (next s x)) v (accepted-moves s x k a)
+
+-- ---------- what it hands out, deposits and withdraws
+
+pub accepted-logs : (s : State) (x : CountingStep) → Sound s → Accepted counting s x → HandsOut (abs s) (label x) (logs s x)
+accepted-logs s (WriteableToReadable t) k a = refl
+accepted-logs s ReadableToWriteable k a = (s .t, rw (a .0), refl)
+accepted-logs s NewRef k a = (s .count, s .t, rw (a .0), refl)
+accepted-logs s (DeleteRef t) k a = refl
+
+pub accepted-safe : (s : State) (x : CountingStep) → Sound s → Accepted counting s x → Safe (abs s) (label x)
+accepted-safe s x k a = safe (label x) (abs s) (abs (next s x)) (k .inv) (accepted-moves s x k a)

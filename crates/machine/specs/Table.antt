@@ -1,0 +1,74 @@
+-- Tables of small cases: what a row says, and when a machine answers as its rows do. Assumes nothing.
+use Prim.Native.Nat.{ℕ}
+use mathlib.Core.Bool.{Bool, true, false, not, _&&_, Bool·beq}
+use mathlib.Core.List.{List, [], _∷_}
+use lib.Dec.{eqb}
+use Rattle.rows.specs.Bytes.{alike}
+use Rattle.rows.specs.Walk.{every, pieces}
+use Rattle.machine.specs.Codes as code
+use Rattle.machine.specs.Machine.{Machine}
+use Rattle.machine.specs.Replay.{Replayed, replay}
+
+-- steps from a state: the code, the place, the image of the state that they lead to (that before the step refused), whether it is sound, and the bytes
+-- that they log
+pub record Case (m : Machine) : Type 0 where
+  pub given : m .State
+  pub steps : List (m .Step)
+  pub code : ℕ
+  pub place : ℕ
+  pub image : List ℕ
+  pub sound : Bool
+  pub log : List ℕ
+
+-- steps one after the other, one step that is accepted, and one that is refused
+abbrev pub runs : {m : Machine} → m .State → List (m .Step) → ℕ → ℕ → List ℕ → List ℕ → Case m
+runs s xs c place image log = record { given = s; steps = xs; code = c; place = place; image = image; sound = true; log = log }
+
+abbrev pub does : {m : Machine} → m .State → m .Step → List ℕ → List ℕ → Case m
+does s x image log = runs s (x ∷ []) code.accepted 1 image log
+
+abbrev pub refuses : {m : Machine} → m .State → m .Step → ℕ → List ℕ → Case m
+refuses s x c image = runs s (x ∷ []) c 0 image []
+
+-- a step that is refused in a state that is not sound: only so can each test be seen by itself
+abbrev pub refusesUnsound : {m : Machine} → m .State → m .Step → ℕ → List ℕ → Case m
+refusesUnsound s x c image = record { given = s; steps = x ∷ []; code = c; place = 0; image = image; sound = false; log = [] }
+
+-- a fresh machine asked for with these parameters: its code, and the image of what is answered
+pub record Start (P : Type 0) : Type 0 where
+  pub asked : P
+  pub code : ℕ
+  pub image : List ℕ
+
+abbrev pub starts : {P : Type 0} → P → ℕ → List ℕ → Start P
+starts p c image = record { asked = p; code = c; image = image }
+
+-- ---------- the machine's answer is the row's
+
+module _ (m : Machine) (sound : m .State → Bool) (imageBytes : m .State → List ℕ) (entryBytes : m .Entry → List ℕ) where
+  abbrev agrees : Case m → Replayed m → Bool
+  agrees c r =
+      (eqb (r .code) (c .code) && eqb (r .place) (c .place))
+      && (alike (imageBytes (r .state)) (c .image) && (Bool·beq (sound (r .state)) (c .sound) && alike (pieces entryBytes (r .log)) (c .log)))
+
+  abbrev pub right : Case m → Bool
+  right c = agrees c (replay m (c .given) 0 (c .steps))
+
+  -- every row is right
+  abbrev pub allRight : List (Case m) → Bool
+  allRight cs = every (λ i c. right c) 0 cs
+
+  -- every row is wrong: so the test looks at everything that a row has
+  abbrev pub allWrong : List (Case m) → Bool
+  allWrong cs = every (λ i c. not (right c)) 0 cs
+
+  -- the code and the state that a fresh machine is answered with
+  module _ {P : Type 0} (codeOf : P → ℕ) (stateOf : P → m .State) where
+    abbrev started : Start P → Bool
+    started r = eqb (codeOf (r .asked)) (r .code) && alike (imageBytes (stateOf (r .asked))) (r .image)
+
+    abbrev pub allStarted : List (Start P) → Bool
+    allStarted rs = every (λ i r. started r) 0 rs
+
+    abbrev pub noneStarted : List (Start P) → Bool
+    noneStarted rs = every (λ i r. not (started r)) 0 rs
