@@ -13,7 +13,7 @@ use Rattle.counting.specs.Source as source
 use Rattle.counting.specs.Source.{CountingPermissions, Transition, Moves, Safe}
 use Rattle.counting.specs.Invariants as invariants
 use Rattle.counting.specs.Invariants.{main-inv}
-use Rattle.counting.specs.Counting.{counting, freshState, next, logs}
+use Rattle.counting.specs.Counting.{counting, freshState}
 use Rattle.counting.specs.Sound.{sound}
 use Rattle.counting.specs.declared.state.State.{State}
 use Rattle.counting.specs.declared.entry.Entry.{Entry}

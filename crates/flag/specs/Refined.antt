@@ -14,7 +14,7 @@ use Rattle.schedule.specs.declared.steps.FlagStep.the-variants.{Begin, Move, Re
 use Rattle.flag.specs.Source as source
 use Rattle.flag.specs.Source.{Control, Memory, Resolves, Flag, Transition, Moves, Safe, control-after, memory-after, resolves}
 use Rattle.flag.specs.Invariants.{FlagInv}
-use Rattle.flag.specs.Flag.{flag, freshState, place, went, next, logs}
+use Rattle.flag.specs.Flag.{flag, freshState, place, went, next}
 use Rattle.flag.specs.Sound.{sound}
 use Rattle.flag.specs.declared.state.State.{State}
 use Rattle.flag.specs.declared.moves.Flips.{Flips}

@@ -14,7 +14,7 @@ use Rattle.schedule.specs.declared.steps.FlatStep.the-variants.{CombinerSend, C
 use Rattle.flat.specs.Source as source
 use Rattle.flat.specs.Source.{FlatCombiner, Transition, Moves, Safe}
 use Rattle.flat.specs.Invariants.{Invariants}
-use Rattle.flat.specs.Flat.{flat, zeroClient, zeroElem, freshState, client, elem, next, logs}
+use Rattle.flat.specs.Flat.{flat, zeroClient, zeroElem, freshState, client, elem}
 use Rattle.flat.specs.Sound.{sound}
 use Rattle.flat.specs.declared.state.Client.{Client}
 use Rattle.flat.specs.declared.state.Elem.{Elem}

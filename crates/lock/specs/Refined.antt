@@ -13,7 +13,7 @@ use Rattle.schedule.specs.declared.steps.LockStep.the-variants.{ExcStart, ExcCh
 use Rattle.lock.specs.Source as source
 use Rattle.lock.specs.Source.{DistRwLock, Initialize, Transition, Moves, Safe}
 use Rattle.lock.specs.Invariants.{Invariants, New, do-guard}
-use Rattle.lock.specs.Lock.{lock, zeroCell, freshState, cell, next, logs}
+use Rattle.lock.specs.Lock.{lock, zeroCell, freshState, cell}
 use Rattle.lock.specs.Sound.{sound}
 use Rattle.lock.specs.declared.state.State.{State}
 use Rattle.lock.specs.declared.entry.Entry.{Entry}

@@ -1,18 +1,15 @@
 -- A machine that does what its source does answers every schedule as the source would have it. Assumes nothing.
-use mathlib.Core.Path.{_≡_, refl, sym, ap, _∙_}
+use mathlib.Core.Path.{_≡_, sym, ap, _∙_}
 use mathlib.Core.Logic.{_⊎_, inl, inr}
-use mathlib.Core.List.{List, [], _∷_, _++_}
-use Prim.Native.Nat.{ℕ, _≤_, _<_}
-use native.Mathlib.Omega.{arith}
-use lib.ListN.{length, take, length-append}
-use lib.Seq.{take-length, take-append-seam}
-use Rattle.rows.proofs.Cases.{on}
-use Rattle.machine.specs.Check.{FailsAt}
-use Rattle.machine.specs.Machine.{Machine, codeOf, Accepted}
+use mathlib.Core.List.{List, [], _∷_}
+use Prim.Native.Nat.{ℕ}
+use lib.ListN.{length, take}
+use lib.Seq.{take-append-seam}
+use Rattle.machine.specs.Machine.{Machine, codeOf}
 use Rattle.machine.specs.Replay.{Replayed, replay, AllAccepted, after, entries, Stopped, Finished, Told}
 use Rattle.machine.specs.Sourced.{Sourced, AllEnabled, Path, stay, move, StopsAt, Exact, Upholds}
 use Rattle.machine.proofs.Checks.{first-fails, fails-first, fails-nonzero}
-use Rattle.machine.proofs.Steps.{accepted-code, code-accepted}
+use Rattle.machine.proofs.Steps.{accepted-code}
 use Rattle.machine.proofs.Replays.{told, only, zero-all, all-replay}
 
 module _ {m : Machine} (o : Sourced m) (Good : m .State → Type 0) (u : Upholds o Good) where

@@ -1,5 +1,5 @@
 -- What an accepted history is, and counting in it. Demands are said of histories. Assumes nothing.
-use mathlib.Core.Bool.{Bool, true, false}
+use mathlib.Core.Bool.{Bool}
 use mathlib.Core.List.{List, [], _∷_, _++_}
 use Prim.Native.Nat.{ℕ}
 use Rattle.rows.specs.Walk.{tick}

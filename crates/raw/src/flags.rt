@@ -1,7 +1,5 @@
 // Flags as bytes, one each: 1 or 0 is written, and any byte but 0 is read as set.
 ghost use mathlib.Core.Path.{_≡_};
-ghost use Prim.Native.Nat.{_+_, _≤_};
-ghost use lib.ListN.{length};
 ghost use Rattle.rows.specs.Stores.{Laid};
 ghost use Rattle.raw.specs.Raw.{setAt, flagsBytes};
 

@@ -8,7 +8,7 @@ use borrow.Author.Tests.{lt-ltb, le-ltb, ne-eqb}
 use lib.ListN.{length}
 use Rattle.rows.proofs.Cases.{clash}
 use Rattle.machine.specs.Machine.{Machine}
-use Rattle.machine.specs.Rest.{Rested, restOf}
+use Rattle.machine.specs.Rest.{restOf}
 use Rattle.schedule.specs.Limits as limit
 use Rattle.machine.specs.Codes as code
 use Rattle.schedule.specs.Language.{Language, stepAt}
@@ -17,7 +17,7 @@ use Rattle.schedule.specs.Widths as kind
 use Rattle.schedule.specs.Reading.{Placed, broken, surplus, placed, placesFrom}
 use Rattle.schedule.specs.Front.{faultCode, faultPlace, openedOf}
 use Rattle.schedule.specs.Given.{Ready, flatReady, lockReady, countingReady, flagReady}
-use Rattle.schedule.specs.Schedule.{Schedule, ofFlat, ofLock, ofCounting, ofFlag, Decoded, faulty, good, withSteps, behindFront, decode}
+use Rattle.schedule.specs.Schedule.{Schedule, ofFlat, ofLock, ofCounting, ofFlag, good, withSteps, behindFront, decode}
 use Rattle.schedule.specs.Answers.{refusedAs, Leaves, restPlaced, restFrom}
 use Rattle.schedule.specs.declared.answer.Answer.{Answer}
 use Rattle.schedule.specs.declared.steps.Params.{Params}
@@ -25,7 +25,7 @@ use Rattle.schedule.specs.declared.steps.Params.the-variants.{Flat, Lock, Count
 use Rattle.schedule.specs.declared.front.Fault.{Fault}
 use Rattle.schedule.specs.declared.front.Opened.{Opened}
 use Rattle.schedule.specs.declared.front.Opened.the-variants.{Faulty, Open}
-use Rattle.schedule.proofs.FrontSays.{paramsOf, Passed, FrontSays, front-says}
+use Rattle.schedule.proofs.FrontSays.{paramsOf, Passed, front-says}
 use Rattle.flat.specs.Flat as flat
 use Rattle.flat.specs.Image as flatBytes
 use Rattle.lock.specs.Lock as lock

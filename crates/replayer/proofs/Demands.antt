@@ -1,15 +1,16 @@
 -- The three demands hold of any bytes and any two buffers. Assumes nothing.
-use mathlib.Core.Path.{_≡_, refl, sym, _∙_}
+use mathlib.Core.Path.{_≡_, refl, _∙_}
 use mathlib.Core.Bool.{Bool, true}
-use mathlib.Core.List.{List, [], _∷_, _++_}
-use Prim.Native.Nat.{ℕ, _+_, _≤_, _<_}
+use mathlib.Core.List.{List, [], _∷_}
+use Prim.Native.Nat.{ℕ, _≤_}
 use native.Mathlib.Omega.{arith}
 use lib.ListN.{length}
 use Rattle.rows.proofs.Cases.{on}
 use Rattle.machine.specs.Machine.{Machine}
 use Rattle.machine.specs.History.{Run, start}
 use Rattle.machine.specs.Replay.{AllAccepted, after, past}
-use Rattle.machine.specs.Rest.{Rested, untouched}
+use Rattle.machine.specs.Rest.{untouched}
+use Rattle.machine.specs.Single.{Stepper}
 use Rattle.machine.specs.Sourced.{AllEnabled}
 use Rattle.machine.proofs.Pasts.{ran}
 use Rattle.machine.proofs.Singles.{single-unsound, kept-state}
@@ -18,8 +19,6 @@ use Rattle.schedule.specs.Limits as limit
 use Rattle.machine.specs.Codes as code
 use Rattle.schedule.specs.Front.{faultCode, faultPlace}
 use Rattle.schedule.specs.Schedule.{Schedule, ofFlat, ofLock, ofCounting, ofFlag, Decoded, faulty, good, decode}
-use Rattle.schedule.specs.Answers.{Leaves}
-use Rattle.schedule.specs.declared.answer.Answer.{Answer}
 use Rattle.schedule.specs.declared.front.Fault.{Fault}
 use Rattle.schedule.specs.declared.front.Fault.the-variants.{Length, Version, Body, Kind, Parameter, Step, Surplus}
 use Rattle.schedule.specs.declared.steps.FlatStep.{FlatStep}
@@ -29,38 +28,39 @@ use Rattle.schedule.specs.declared.steps.FlagStep.{FlagStep}
 use Rattle.schedule.specs.declared.steps.FlagStep.the-variants.{Begin, Move, Read}
 use Rattle.schedule.proofs.Given.{faults-given}
 use Rattle.flat.specs.Flat as flat
-use Rattle.flat.specs.Sound as flatSound
+use Rattle.flat.specs.Single as flatSingle
 use Rattle.flat.specs.Refined as flatTo
-use Rattle.flat.specs.Image as flatBytes
 use Rattle.flat.proofs.Demands as flatProved
 use Rattle.flat.proofs.Refines as flatRefined
 use Rattle.lock.specs.Lock as lock
-use Rattle.lock.specs.Sound as lockSound
+use Rattle.lock.specs.Single as lockSingle
 use Rattle.lock.specs.Refined as lockTo
-use Rattle.lock.specs.Image as lockBytes
 use Rattle.lock.proofs.Demands as lockProved
 use Rattle.lock.proofs.Refines as lockRefined
 use Rattle.counting.specs.Counting as counting
-use Rattle.counting.specs.Sound as countingSound
-use Rattle.counting.specs.Image as countingBytes
+use Rattle.counting.specs.Single as countingSingle
 use Rattle.counting.specs.Refined as countingTo
 use Rattle.counting.proofs.Refines as countingRefined
 use Rattle.counting.proofs.Demands as countingProved
 use Rattle.flag.specs.Flag as flag
 use Rattle.flag.specs.declared.state.State as flagState
-use Rattle.flag.specs.Sound as flagSound
+use Rattle.flag.specs.Single as flagSingle
 use Rattle.flag.specs.Refined as flagTo
-use Rattle.flag.specs.Image as flagBytes
 use Rattle.flag.proofs.Demands as flagProved
 use Rattle.flag.proofs.Refines as flagRefined
-use Rattle.flat_run.proofs.Carried as flatRun
-use Rattle.lock_run.proofs.Carried as lockRun
-use Rattle.counting_run.proofs.Carried as countingRun
-use Rattle.flag_run.proofs.Carried as flagRun
+use Rattle.flat_run.specs.Run as flatRun
+use Rattle.flat_run.proofs.Carried as flatRan
+use Rattle.lock_run.specs.Run as lockRun
+use Rattle.lock_run.proofs.Carried as lockRan
+use Rattle.counting_run.specs.Run as countingRun
+use Rattle.counting_run.proofs.Carried as countingRan
+use Rattle.flag_run.specs.Run as flagRun
+use Rattle.flag_run.proofs.Carried as flagRan
 use Rattle.replayer.specs.Replay.{replayed, answered, replayOf}
 use Rattle.replayer.specs.Demands.{steps#, Room, MadeUpRefused, Demand1, Demand2, Demand3}
 use Rattle.replayer.proofs.Behind.{decoded-allowed}
-use Rattle.replayer.proofs.Rooms.{Keeps, untouched-keeps, no-room, roomy, rest-keeps, replays}
+use Rattle.replayer.proofs.Rooms.{Keeps, untouched-keeps, no-room, roomy, steps-keep, replays}
+use Rattle.replayer.proofs.Settled.{replay-settled}
 use Rattle.replayer.proofs.Four.{flat-upholds, lock-upholds, counting-upholds, flag-upholds, flat-fresh, lock-fresh, counting-fresh, flag-fresh, single-exact, flat-codes, lock-codes, counting-codes, flag-codes}
 
 -- ---------- 1
@@ -77,34 +77,32 @@ module _ (log image : List ℕ) where
   fault-keeps Surplus = untouched-keeps code.surplus limit.steps log image (omega arith) (omega arith)
 
   schedule-keeps : (s : Schedule) → Keeps log image (replayed s log image)
-  schedule-keeps (ofFlat n xs) = rest-keeps flat.flat flatBytes.entryBytes flatBytes.imageBytes (flat.freshState n) xs log image flat-codes (flatRun.carries .short) (flatRun.carries .small)
-  schedule-keeps (ofLock w t xs) = rest-keeps lock.lock lockBytes.entryBytes lockBytes.imageBytes (lock.freshState w t) xs log image lock-codes (lockRun.carries .short) (lockRun.carries .small)
-  schedule-keeps (ofCounting xs) =
-      rest-keeps counting.counting countingBytes.entryBytes countingBytes.imageBytes counting.freshState xs log image counting-codes (countingRun.carries .short) (countingRun.carries .small)
-  schedule-keeps (ofFlag n v xs) = rest-keeps flag.flag flagBytes.entryBytes flagBytes.imageBytes (flag.freshState n v) xs log image flag-codes (flagRun.carries .short) (flagRun.carries .small)
+  schedule-keeps (ofFlat n xs) = steps-keep flatRun.runner (flat.freshState n) xs log image flatRan.carries flat-codes
+  schedule-keeps (ofLock w t xs) = steps-keep lockRun.runner (lock.freshState w t) xs log image lockRan.carries lock-codes
+  schedule-keeps (ofCounting xs) = steps-keep countingRun.runner counting.freshState xs log image countingRan.carries counting-codes
+  schedule-keeps (ofFlag n v xs) = steps-keep flagRun.runner (flag.freshState n v) xs log image flagRan.carries flag-codes
 
   answered-keeps : (d : Decoded) → Keeps log image (answered d log image)
   answered-keeps (faulty x) = fault-keeps x
   answered-keeps (good s) = schedule-keeps s
 
   schedule-short : (s : Schedule) → (Room (steps# s) log image → ⊥) → replayed s log image ≡ untouched code.room 0 log image
-  schedule-short (ofFlat n xs) = no-room flat.flat flatBytes.entryBytes flatBytes.imageBytes (flat.freshState n) xs log image
-  schedule-short (ofLock w t xs) = no-room lock.lock lockBytes.entryBytes lockBytes.imageBytes (lock.freshState w t) xs log image
-  schedule-short (ofCounting xs) = no-room counting.counting countingBytes.entryBytes countingBytes.imageBytes counting.freshState xs log image
-  schedule-short (ofFlag n v xs) = no-room flag.flag flagBytes.entryBytes flagBytes.imageBytes (flag.freshState n v) xs log image
+  schedule-short (ofFlat n xs) = no-room flatRun.runner (flat.freshState n) xs log image
+  schedule-short (ofLock w t xs) = no-room lockRun.runner (lock.freshState w t) xs log image
+  schedule-short (ofCounting xs) = no-room countingRun.runner counting.freshState xs log image
+  schedule-short (ofFlag n v xs) = no-room flagRun.runner (flag.freshState n v) xs log image
 
   schedule-roomy : (s : Schedule) → Room (steps# s) log image → replayed s log image .code ≡ code.room → ⊥
-  schedule-roomy (ofFlat n xs) = roomy flat.flat flatBytes.entryBytes flatBytes.imageBytes (flat.freshState n) xs log image flat-codes (flatRun.carries .short) (flatRun.carries .small)
-  schedule-roomy (ofLock w t xs) = roomy lock.lock lockBytes.entryBytes lockBytes.imageBytes (lock.freshState w t) xs log image lock-codes (lockRun.carries .short) (lockRun.carries .small)
-  schedule-roomy (ofCounting xs) =
-      roomy counting.counting countingBytes.entryBytes countingBytes.imageBytes counting.freshState xs log image counting-codes (countingRun.carries .short) (countingRun.carries .small)
-  schedule-roomy (ofFlag n v xs) = roomy flag.flag flagBytes.entryBytes flagBytes.imageBytes (flag.freshState n v) xs log image flag-codes (flagRun.carries .short) (flagRun.carries .small)
+  schedule-roomy (ofFlat n xs) = roomy flatRun.runner (flat.freshState n) xs log image flatRan.carries flat-codes
+  schedule-roomy (ofLock w t xs) = roomy lockRun.runner (lock.freshState w t) xs log image lockRan.carries lock-codes
+  schedule-roomy (ofCounting xs) = roomy countingRun.runner counting.freshState xs log image countingRan.carries counting-codes
+  schedule-roomy (ofFlag n v xs) = roomy flagRun.runner (flag.freshState n v) xs log image flagRan.carries flag-codes
 
 -- a state that is not sound fails the test, which is the record where the rows are whole
-made-up : (m : Machine) (sound : m .State → Bool) (Whole Sound : m .State → Type 0) → ((s : m .State) → Whole s → sound s ≡ true → Sound s) → MadeUpRefused m sound Whole Sound
-made-up m sound Whole Sound told s x log h w n = on (sound s)
-    (λ b. absurd (n (told s w b)))
-    (λ b. single-unsound m sound limit.entry s x log h b)
+made-up : {m : Machine} (p : Stepper m) (Whole Sound : m .State → Type 0) → ((s : m .State) → Whole s → p .sound s ≡ true → Sound s) → MadeUpRefused p Whole Sound
+made-up {m} p Whole Sound means s x log h w n = on (p .sound s)
+    (λ b. absurd (n (means s w b)))
+    (λ b. single-unsound m (p .sound) (p .room) s x log h b)
 
 module _ (f log image : List ℕ) where
   decoded : (d : Decoded) → decode f ≡ d → replayOf f log image ≡ answered d log image
@@ -117,7 +115,7 @@ module _ (f log image : List ℕ) where
   pub demand1 : Demand1 f log image
   demand1 =
       record {
-        one-answer = λ r q k l i j a b. (a .answer ∙ sym (b .answer), a .log ∙ sym (b .log), a .image ∙ sym (b .image));
+        one-answer = λ r q k l i j. replay-settled f log image;
         given = faults-given f;
         fault = λ x e. decoded (faulty x) e;
         short = λ s e n. decoded (good s) e ∙ schedule-short log image s n;
@@ -126,14 +124,14 @@ module _ (f log image : List ℕ) where
         known = keeps .known;
         log-kept = keeps .log-kept;
         image-kept = keeps .image-kept;
-        refused-flat = kept-state flat.flat flatSound.sound limit.entry;
-        refused-lock = kept-state lock.lock lockSound.sound limit.entry;
-        refused-counting = kept-state counting.counting countingSound.sound limit.entry;
-        refused-flag = kept-state flag.flag flagSound.sound limit.entry;
-        made-up-flat = made-up flat.flat flatSound.sound _ flatTo.Sound (λ s w e. flatRefined.refines .sound-means s (w .0) (w .1) e);
-        made-up-lock = made-up lock.lock lockSound.sound _ lockTo.Sound (λ s w e. lockRefined.refines .sound-means s w e);
-        made-up-counting = made-up counting.counting countingSound.sound _ countingTo.Sound (λ s w e. countingRefined.refines .sound-means s e);
-        made-up-flag = made-up flag.flag flagSound.sound _ flagTo.Sound (λ s w e. flagRefined.refines .sound-means s w e);
+        refused-flat = kept-state flat.flat (flatSingle.stepper .sound) limit.entry;
+        refused-lock = kept-state lock.lock (lockSingle.stepper .sound) limit.entry;
+        refused-counting = kept-state counting.counting (countingSingle.stepper .sound) limit.entry;
+        refused-flag = kept-state flag.flag (flagSingle.stepper .sound) limit.entry;
+        made-up-flat = made-up flatSingle.stepper _ flatTo.Sound (λ s w e. flatRefined.refines .sound-means s (w .0) (w .1) e);
+        made-up-lock = made-up lockSingle.stepper _ lockTo.Sound (λ s w e. lockRefined.refines .sound-means s w e);
+        made-up-counting = made-up countingSingle.stepper _ countingTo.Sound (λ s w e. countingRefined.refines .sound-means s e);
+        made-up-flag = made-up flagSingle.stepper _ flagTo.Sound (λ s w e. flagRefined.refines .sound-means s w e);
       }
 
 -- ---------- 2
@@ -150,22 +148,22 @@ module _ (f log image : List ℕ) where
         fresh-lock = lock-fresh;
         fresh-counting = counting-fresh;
         fresh-flag = flag-fresh;
-        single-flat = single-exact flatTo.flatCombine flatTo.Sound flatSound.sound flat-upholds (flatRefined.refines .means-sound);
-        single-lock = single-exact lockTo.distRwLock lockTo.Sound lockSound.sound lock-upholds (lockRefined.refines .means-sound);
-        single-counting = single-exact countingTo.countingPermissions countingTo.Sound countingSound.sound counting-upholds (countingRefined.refines .means-sound);
-        single-flag = single-exact flagTo.helping flagTo.Sound flagSound.sound flag-upholds (flagRefined.refines .means-sound);
+        single-flat = single-exact flatTo.flatCombine flatTo.Sound flatSingle.stepper flat-upholds (flatRefined.refines .means-sound);
+        single-lock = single-exact lockTo.distRwLock lockTo.Sound lockSingle.stepper lock-upholds (lockRefined.refines .means-sound);
+        single-counting = single-exact countingTo.countingPermissions countingTo.Sound countingSingle.stepper counting-upholds (countingRefined.refines .means-sound);
+        single-flag = single-exact flagTo.helping flagTo.Sound flagSingle.stepper flag-upholds (flagRefined.refines .means-sound);
         file-flat = λ n xs e r. rw (decoded f log image (good (ofFlat n xs)) e)
-            (replays flat.flat flatBytes.entryBytes flatBytes.imageBytes (flat.freshState n) xs log image flatTo.flatCombine flatTo.Sound flat-upholds
+            (replays flatRun.runner (flat.freshState n) xs log image flatTo.flatCombine flat-upholds
             (flat-fresh n (decoded-allowed f (ofFlat n xs) e)) r);
         file-lock = λ w t xs e r. let a = decoded-allowed f (ofLock w t xs) e in
             rw (decoded f log image (good (ofLock w t xs)) e)
-            (replays lock.lock lockBytes.entryBytes lockBytes.imageBytes (lock.freshState w t) xs log image lockTo.distRwLock lockTo.Sound lock-upholds (lock-fresh w t (a .0) (a .1)) r);
+            (replays lockRun.runner (lock.freshState w t) xs log image lockTo.distRwLock lock-upholds (lock-fresh w t (a .0) (a .1)) r);
         file-counting = λ xs e r. rw (decoded f log image (good (ofCounting xs)) e)
-            (replays counting.counting countingBytes.entryBytes countingBytes.imageBytes counting.freshState xs log image countingTo.countingPermissions countingTo.Sound
+            (replays countingRun.runner counting.freshState xs log image countingTo.countingPermissions
             counting-upholds counting-fresh r);
         file-flag = λ n v xs e r. let a = decoded-allowed f (ofFlag n v xs) e in
             rw (decoded f log image (good (ofFlag n v xs)) e)
-            (replays flag.flag flagBytes.entryBytes flagBytes.imageBytes (flag.freshState n v) xs log image flagTo.helping flagTo.Sound flag-upholds (flag-fresh n v (a .0) (a .1)) r);
+            (replays flagRun.runner (flag.freshState n v) xs log image flagTo.helping flag-upholds (flag-fresh n v (a .0) (a .1)) r);
       }
 
 -- ---------- 3

@@ -1,12 +1,9 @@
 -- What the four machines bring to the demands: their sources upheld, fresh machines sound, the range of their codes. Assumes nothing.
 use mathlib.Core.Path.{_≡_, refl}
 use mathlib.Core.Bool.{Bool, true}
-use mathlib.Core.List.{List}
-use mathlib.Core.Option.{some}
 use Prim.Native.Nat.{ℕ, _≤_}
-use lib.ListN.{length}
 use Rattle.machine.specs.Machine.{Machine}
-use Rattle.machine.specs.Single.{single}
+use Rattle.machine.specs.Single.{Stepper}
 use Rattle.machine.specs.Sourced.{Sourced, Upholds}
 use Rattle.machine.proofs.Steps.{accepted-code}
 use Rattle.machine.proofs.Singles.{single-accepted, zero-accepted}
@@ -69,12 +66,12 @@ flag-fresh n v l h = let r = flagProved.refines in r .sound-means (flag.freshSta
 
 -- ---------- a single step, by the source
 
-pub single-exact : {m : Machine} (o : Sourced m) (Good : m .State → Type 0) (sound : m .State → Bool) → Upholds o Good
-    → ((s : m .State) → Good s → sound s ≡ true) → SingleExact o Good sound
-single-exact {m} o Good sound u tested =
+pub single-exact : {m : Machine} (o : Sourced m) (Sound : m .State → Type 0) (p : Stepper m) → Upholds o Sound
+    → ((s : m .State) → Sound s → p .sound s ≡ true) → SingleExact o Sound p
+single-exact {m} o Sound p u tested =
     record {
-      enabled = λ s x log h g z. u .accepted-enabled s x g (zero-accepted m sound limit.entry s x log z);
-      does = λ s x log h g e. single-accepted m sound limit.entry s x log h (tested s g) (accepted-code m s x (u .enabled-accepted s x g e));
+      enabled = λ s x log h g z. u .accepted-enabled s x g (zero-accepted m (p .sound) (p .room) s x log z);
+      does = λ s x log h g e. single-accepted m (p .sound) (p .room) s x log h (tested s g) (accepted-code m s x (u .enabled-accepted s x g e));
     }
 
 -- ---------- the codes of steps go from 11 to 18

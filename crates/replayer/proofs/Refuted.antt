@@ -16,7 +16,7 @@ use Rattle.schedule.specs.Widths.{widths, widthsOf}
 use Rattle.schedule.specs.declared.answer.Answer.{Answer}
 use Rattle.replayer.specs.Replay.{replayOf}
 use Rattle.replayer.specs.Cases.{p03, p05}
-use Rattle.replayer.specs.Imposters.{Did, Replayer, Promised, sent, noSteps, on, NoImposter}
+use Rattle.replayer.specs.Imposters.{Replayer, Promised, sent, noSteps, on, NoImposter}
 
 abbrev at : List ℕ → Rested
 at f = replayOf f (replicate 50 0) (replicate 512 0)

@@ -1,28 +1,27 @@
 -- The answer to the steps of a schedule, for any machine: 8 without room, and else the replay; its codes, and what it writes. Assumes nothing.
-use mathlib.Core.Path.{_≡_, refl, sym, _∙_}
-use mathlib.Core.Bool.{Bool, true, false, _&&_}
+use mathlib.Core.Path.{_≡_, refl, sym}
+use mathlib.Core.Bool.{Bool, true, _&&_}
 use mathlib.Core.Logic.{_⊎_, inl, inr}
-use mathlib.Core.List.{List, [], _∷_, append-nil}
-use Prim.Native.Nat.{ℕ, _*_, _≤_, _<_}
+use mathlib.Core.List.{List, [], _∷_}
+use Prim.Native.Nat.{ℕ, _*_, _≤_}
 use native.Mathlib.Omega.{arith}
-use borrow.Author.Tests.{leb-true, ltb-true, ltb-false, le-ltb}
+use borrow.Author.Tests.{leb-true, ltb-false, le-ltb}
 use lib.Dec.{leb, ltb}
-use lib.ListN.{length, take}
-use Rattle.rows.specs.Stores.{over}
+use lib.ListN.{length}
 use Rattle.rows.specs.Walk.{pieces}
 use Rattle.rows.proofs.Cases.{on, both-true}
+use Rattle.machine.specs.Codes as code
 use Rattle.machine.specs.Check.{Check, first}
-use Rattle.machine.specs.Machine.{Machine, codeOf}
-use Rattle.machine.specs.History.{logOf}
-use Rattle.machine.specs.Replay.{Replayed, replay, past, Finished, Stopped}
-use Rattle.machine.specs.Rest.{Rested, untouched, finished, restOf}
+use Rattle.machine.specs.Replay.{Replayed, replay, Finished, Stopped}
+use Rattle.machine.specs.Rest.{Rested, untouched, finished}
 use Rattle.machine.specs.Sourced.{Sourced, Upholds}
 use Rattle.machine.proofs.Replays.{told}
 use Rattle.machine.proofs.Pasts.{replay-log}
 use Rattle.machine.proofs.Rests.{replay-short}
 use Rattle.machine.proofs.Sourceds.{exact}
 use Rattle.schedule.specs.Limits as limit
-use Rattle.machine.specs.Codes as code
+use Rattle.schedule.specs.Running.{Runner, runSteps}
+use Rattle.schedule.proofs.Running.{Carries}
 use Rattle.replayer.specs.Demands.{Room, Wrote, Replays}
 
 -- ---------- the codes of a step
@@ -59,12 +58,12 @@ nothing l = record { bytes = []; many = refl; fits = omega arith; over-front = r
 pub untouched-keeps : (c p : ℕ) (log image : List ℕ) → 1 ≤ c → c ≤ code.room → Keeps log image (untouched c p log image)
 untouched-keeps c p log image l h = record { refused-file = λ a b. refl; known = inr (inl (l, h)); log-kept = nothing log; image-kept = nothing image }
 
-module _ (m : Machine) (bytes : m .Entry → List ℕ) (imageOf : m .State → List ℕ) (s : m .State) (xs : List (m .Step)) (log image : List ℕ) where
+module _ (p : Runner) (s : p .machine .State) (xs : List (p .machine .Step)) (log image : List ℕ) where
   abbrev answer : Rested
-  answer = restOf m bytes imageOf limit.entry limit.image s xs log image
+  answer = runSteps p s xs log image
 
-  abbrev ran : Replayed m
-  ran = replay m s 0 xs
+  abbrev ran : Replayed (p .machine)
+  ran = replay (p .machine) s 0 xs
 
   -- ---------- with room and without
 
@@ -73,16 +72,15 @@ module _ (m : Machine) (bytes : m .Entry → List ℕ) (imageOf : m .State → L
       (λ a. on (ltb (length image) limit.image) (λ b. rw (a, b))
       (λ b. absurd (n (record { entries = ltb-false (length log) (length xs * limit.entry) a; state = ltb-false (length image) limit.image b }))))
 
-  pub with-room : Room (length xs) log image → answer ≡ finished m bytes imageOf ran log image
+  pub with-room : Room (length xs) log image → answer ≡ finished (p .machine) (p .bytes) (p .image) ran log image
   with-room r = rw (le-ltb (length log) (length xs * limit.entry) (r .entries), le-ltb (length image) limit.image (r .state))
 
   -- ---------- the machine's own codes and lengths
 
-  module _ (codes : (q : m .State) (x : m .Step) → spans code.outside code.full (m .tests q x) ≡ true)
-      (short : (q : m .State) (x : m .Step) → length (pieces bytes (m .logs q x)) ≤ limit.entry) (small : (q : m .State) → length (imageOf q) ≤ limit.image) where
-    ran-code : Finished m xs ran ⊎ Stopped m xs ran → Between (ran .code)
+  module _ (o : Carries p) (codes : (q : p .machine .State) (x : p .machine .Step) → spans code.outside code.full (p .machine .tests q x) ≡ true) where
+    ran-code : Finished (p .machine) xs ran ⊎ Stopped (p .machine) xs ran → Between (ran .code)
     ran-code (inl f) = inl (f .code)
-    ran-code (inr f) = rw (← f .refused) (first-spans (m .tests (ran .state) (f .step)) (codes (ran .state) (f .step)))
+    ran-code (inr f) = rw (← f .refused) (first-spans (p .machine .tests (ran .state) (f .step)) (codes (ran .state) (f .step)))
 
     code-known : Between (ran .code) → (ran .code ≡ 0) ⊎ ((1 ≤ ran .code) × (ran .code ≤ code.room)) ⊎ ((code.outside ≤ ran .code) × (ran .code ≤ code.full))
     code-known (inl z) = inl z
@@ -92,23 +90,23 @@ module _ (m : Machine) (bytes : m .Entry → List ℕ) (imageOf : m .State → L
     never-file (inl z) l h = omega (arith, z)
     never-file (inr b) l h = omega (arith, b .0)
 
-    finished-keeps : Room (length xs) log image → Keeps log image (finished m bytes imageOf ran log image)
+    finished-keeps : Room (length xs) log image → Keeps log image (finished (p .machine) (p .bytes) (p .image) ran log image)
     finished-keeps r =
-        let b = ran-code (told m s xs .ends) in
+        let b = ran-code (told (p .machine) s xs .ends) in
+        let few = replay-short (p .machine) (p .bytes) limit.entry (o .short) s 0 xs in
         record {
           refused-file = λ l h. absurd (never-file b l h);
           known = code-known b;
-          log-kept =
-              record { bytes = pieces bytes (ran .log); many = refl; fits = omega (arith, r .entries, replay-short m bytes limit.entry short s 0 xs); over-front = refl };
-          image-kept = record { bytes = imageOf (ran .state); many = refl; fits = omega (arith, r .state, small (ran .state)); over-front = refl };
+          log-kept = record { bytes = pieces (p .bytes) (ran .log); many = refl; fits = omega (arith, r .entries, few); over-front = refl };
+          image-kept = record { bytes = p .image (ran .state); many = refl; fits = omega (arith, r .state, o .small (ran .state)); over-front = refl };
         }
 
     -- 8 is given for want of room alone
     pub roomy : Room (length xs) log image → answer .code ≡ code.room → ⊥
-    roomy r e = let z = rw (with-room r) at e in never-file (ran-code (told m s xs .ends)) (omega (arith, z)) (omega (arith, z))
+    roomy r e = let z = rw (with-room r) at e in never-file (ran-code (told (p .machine) s xs .ends)) (omega (arith, z)) (omega (arith, z))
 
-    pub rest-keeps : Keeps log image answer
-    rest-keeps = on (ltb (length log) (length xs * limit.entry)) (λ a. rw a (untouched-keeps code.room 0 log image (omega arith) (omega arith)))
+    pub steps-keep : Keeps log image answer
+    steps-keep = on (ltb (length log) (length xs * limit.entry)) (λ a. rw a (untouched-keeps code.room 0 log image (omega arith) (omega arith)))
         (λ a. on (ltb (length image) limit.image) (λ b. rw (a, b) (untouched-keeps code.room 0 log image (omega arith) (omega arith)))
         (λ b.
         let r : Room (length xs) log image = record { entries = ltb-false (length log) (length xs * limit.entry) a; state = ltb-false (length image) limit.image b } in
@@ -116,17 +114,17 @@ module _ (m : Machine) (bytes : m .Entry → List ℕ) (imageOf : m .State → L
 
   -- ---------- and by the source
 
-  pub replays : (o : Sourced m) (Good : m .State → Type 0) → Upholds o Good → Good s → Room (length xs) log image → Replays o bytes imageOf s xs log image answer
-  replays o Good u g r =
+  pub replays : (o : Sourced (p .machine)) → Upholds o (p .Good) → p .Good s → Room (length xs) log image → Replays p o s xs log image answer
+  replays o u g r =
       rw (with-room r)
       (record {
         said = ran;
-        exact = exact o Good u s g xs;
+        exact = exact o (p .Good) u s g xs;
         code = refl;
         place = refl;
         logged = refl;
         imaged = refl;
         log-bytes = refl;
         image-bytes = refl;
-        history = sym (replay-log m s xs);
+        history = sym (replay-log (p .machine) s xs);
       })

@@ -2,7 +2,7 @@
 -- proofs/Demands.antt proves all three. The words used: `Leaves` and `Rested`, what a call answers and leaves (schedule specs/Answers, machine
 -- specs/Rest); `single`, one step on any state (machine specs/Single); `Exact` and `Upholds`, going by the source (machine specs/Sourced). Assumes nothing.
 use mathlib.Core.Path.{_≡_}
-use mathlib.Core.Bool.{Bool, true, false}
+use mathlib.Core.Bool.{Bool}
 use mathlib.Core.Logic.{_⊎_}
 use mathlib.Core.List.{List, [], _++_}
 use mathlib.Core.Option.{Option, some}
@@ -14,7 +14,7 @@ use Rattle.machine.specs.Machine.{Machine}
 use Rattle.machine.specs.History.{logOf}
 use Rattle.machine.specs.Replay.{Replayed, after, past}
 use Rattle.machine.specs.Rest.{Rested, untouched}
-use Rattle.machine.specs.Single.{single, handedBack}
+use Rattle.machine.specs.Single.{single, handedBack, Stepper}
 use Rattle.machine.specs.Sourced.{Sourced, Enabled, AllEnabled, Exact, Upholds}
 use Rattle.schedule.specs.Limits as limit
 use Rattle.machine.specs.Codes as code
@@ -22,6 +22,7 @@ use Rattle.schedule.specs.Front.{faultCode, faultPlace}
 use Rattle.schedule.specs.Given.{FaultsGiven}
 use Rattle.schedule.specs.Schedule.{Schedule, ofFlat, ofLock, ofCounting, ofFlag, faulty, good, decode}
 use Rattle.schedule.specs.Answers.{Leaves}
+use Rattle.schedule.specs.Running.{Runner}
 use Rattle.schedule.specs.declared.answer.Answer.{Answer}
 use Rattle.schedule.specs.declared.front.Fault.{Fault}
 use Rattle.schedule.specs.declared.steps.FlatStep.{FlatStep}
@@ -29,25 +30,25 @@ use Rattle.schedule.specs.declared.steps.LockStep.{LockStep}
 use Rattle.schedule.specs.declared.steps.CountingStep.{CountingStep}
 use Rattle.schedule.specs.declared.steps.FlagStep.{FlagStep}
 use Rattle.flat.specs.Flat as flat
-use Rattle.flat.specs.Sound as flatSound
+use Rattle.flat.specs.Single as flatSingle
 use Rattle.flat.specs.Refined as flatTo
-use Rattle.flat.specs.Image as flatBytes
 use Rattle.flat.specs.Demand as flatDemand
 use Rattle.lock.specs.Lock as lock
-use Rattle.lock.specs.Sound as lockSound
+use Rattle.lock.specs.Single as lockSingle
 use Rattle.lock.specs.Refined as lockTo
-use Rattle.lock.specs.Image as lockBytes
 use Rattle.lock.specs.Demand as lockDemand
 use Rattle.counting.specs.Counting as counting
-use Rattle.counting.specs.Sound as countingSound
+use Rattle.counting.specs.Single as countingSingle
 use Rattle.counting.specs.Refined as countingTo
-use Rattle.counting.specs.Image as countingBytes
 use Rattle.counting.specs.Demand as countingDemand
 use Rattle.flag.specs.Flag as flag
-use Rattle.flag.specs.Sound as flagSound
+use Rattle.flag.specs.Single as flagSingle
 use Rattle.flag.specs.Refined as flagTo
-use Rattle.flag.specs.Image as flagBytes
 use Rattle.flag.specs.Demand as flagDemand
+use Rattle.flat_run.specs.Run as flatRun
+use Rattle.lock_run.specs.Run as lockRun
+use Rattle.counting_run.specs.Run as countingRun
+use Rattle.flag_run.specs.Run as flagRun
 use Rattle.replayer.specs.Replay.{replayOf}
 
 -- how many steps a schedule has, and buffers of the scope's sizes for n steps
@@ -65,16 +66,16 @@ pub record Room (n : ℕ) (log image : List ℕ) : Type 0 where
 
 -- a made-up state with whole rows, as every row of the code is: a single step tests it and, if it is not sound, answers 10, hands it back and logs
 -- nothing. What sound is: the source's invariants, the limits, unused entries zero
-abbrev pub MadeUpRefused : (m : Machine) → (m .State → Bool) → (m .State → Type 0) → (m .State → Type 0) → Type 0
-MadeUpRefused m sound Whole Sound =
-    (s : m .State) (x : m .Step) (log : List ℕ) → limit.entry ≤ length log → Whole s → (Sound s → ⊥)
-    → single m sound limit.entry s (some x) log ≡ handedBack code.unsound s
+abbrev pub MadeUpRefused : {m : Machine} → Stepper m → (m .State → Type 0) → (m .State → Type 0) → Type 0
+MadeUpRefused {m} p Whole Sound =
+    (s : m .State) (x : m .Step) (log : List ℕ) → p .room ≤ length log → Whole s → (Sound s → ⊥)
+    → single m (p .sound) (p .room) s (some x) log ≡ handedBack code.unsound s
 
 -- a refused single step, of this kind or another, hands the state back and logs nothing
-abbrev pub RefusalKeeps : (m : Machine) → (m .State → Bool) → Type 0
-RefusalKeeps m sound =
+abbrev pub RefusalKeeps : {m : Machine} → Stepper m → Type 0
+RefusalKeeps {m} p =
     (s : m .State) (x : Option (m .Step)) (log : List ℕ)
-    → let a = single m sound limit.entry s x log in (a .code ≡ 0 → ⊥) → (a .state ≡ s) × (a .wrote ≡ [])
+    → let a = single m (p .sound) (p .room) s x log in (a .code ≡ 0 → ⊥) → (a .state ≡ s) × (a .wrote ≡ [])
 
 -- what is written, and that the bytes beyond keep their values
 pub record Wrote (count : ℕ) (before after : List ℕ) : Type 0 where
@@ -101,37 +102,37 @@ pub record Demand1 (f log image : List ℕ) : Type 0 where
   pub image-kept : let a = replayOf f log image in Wrote (a .imaged) image (a .image)
   -- "A refused step leaves the state that stood before it and the log of the steps before it": a single step here, a file's step in the fields state and
   -- log of `Exact`, below
-  pub refused-flat : RefusalKeeps flat.flat flatSound.sound
-  pub refused-lock : RefusalKeeps lock.lock lockSound.sound
-  pub refused-counting : RefusalKeeps counting.counting countingSound.sound
-  pub refused-flag : RefusalKeeps flag.flag flagSound.sound
+  pub refused-flat : RefusalKeeps flatSingle.stepper
+  pub refused-lock : RefusalKeeps lockSingle.stepper
+  pub refused-counting : RefusalKeeps countingSingle.stepper
+  pub refused-flag : RefusalKeeps flagSingle.stepper
   -- "A made-up machine state is tested and, if not sound, refused."
-  pub made-up-flat : MadeUpRefused flat.flat flatSound.sound (λ s. (length (s .clients) ≡ limit.clients) × (length (s .elems) ≡ limit.clients)) flatTo.Sound
-  pub made-up-lock : MadeUpRefused lock.lock lockSound.sound (λ s. length (s .cells) ≡ limit.width) lockTo.Sound
-  pub made-up-counting : MadeUpRefused counting.counting countingSound.sound (λ s. Unit {0}) countingTo.Sound
-  pub made-up-flag : MadeUpRefused flag.flag flagSound.sound (λ s. length (s .places) ≡ limit.threads) flagTo.Sound
+  pub made-up-flat : MadeUpRefused flatSingle.stepper (λ s. (length (s .clients) ≡ limit.clients) × (length (s .elems) ≡ limit.clients)) flatTo.Sound
+  pub made-up-lock : MadeUpRefused lockSingle.stepper (λ s. length (s .cells) ≡ limit.width) lockTo.Sound
+  pub made-up-counting : MadeUpRefused countingSingle.stepper (λ s. Unit {0}) countingTo.Sound
+  pub made-up-flag : MadeUpRefused flagSingle.stepper (λ s. length (s .places) ≡ limit.threads) flagTo.Sound
 
 -- ---------- 2
 
 -- a file's answer a, in the machine's own words: what the replay `said` that goes exactly by the source, laid over the buffers
-pub record Replays {m : Machine} (o : Sourced m) (bytes : m .Entry → List ℕ) (imageOf : m .State → List ℕ) (s₀ : m .State) (xs : List (m .Step)) (log image : List ℕ)
-    (a : Rested) : Type 0 where
-  pub said : Replayed m
+pub record Replays (p : Runner) (o : Sourced (p .machine)) (s₀ : p .machine .State) (xs : List (p .machine .Step)) (log image : List ℕ) (a : Rested) : Type 0 where
+  pub said : Replayed (p .machine)
   pub exact : Exact o s₀ xs said
   pub code : a .code ≡ said .code
   pub place : a .place ≡ said .place
-  pub logged : a .logged ≡ length (pieces bytes (said .log))
-  pub imaged : a .imaged ≡ length (imageOf (said .state))
-  pub log-bytes : a .log ≡ over (pieces bytes (said .log)) log
-  pub image-bytes : a .image ≡ over (imageOf (said .state)) image
+  pub logged : a .logged ≡ length (pieces (p .bytes) (said .log))
+  pub imaged : a .imaged ≡ length (p .image (said .state))
+  pub log-bytes : a .log ≡ over (pieces (p .bytes) (said .log)) log
+  pub image-bytes : a .image ≡ over (p .image (said .state)) image
   -- the log is that of the history of the accepted steps, of which demand 3 speaks
-  pub history : said .log ≡ logOf (past m [] s₀ (take (said .place) xs))
+  pub history : said .log ≡ logOf (past (p .machine) [] s₀ (take (said .place) xs))
 
 -- a single step on a sound state, with a log buffer of the scope's size: 0 exactly when it is enabled, and then what the step does
-pub record SingleExact {m : Machine} (o : Sourced m) (Good : m .State → Type 0) (sound : m .State → Bool) : Type 0 where
-  pub enabled : (s : m .State) (x : m .Step) (log : List ℕ) → limit.entry ≤ length log → Good s → single m sound limit.entry s (some x) log .code ≡ 0 → Enabled o s x
-  pub does : (s : m .State) (x : m .Step) (log : List ℕ) → limit.entry ≤ length log → Good s → Enabled o s x
-      → single m sound limit.entry s (some x) log ≡ record { code = 0; state = m .next s x; wrote = m .logs s x }
+pub record SingleExact {m : Machine} (o : Sourced m) (Sound : m .State → Type 0) (p : Stepper m) : Type 0 where
+  pub enabled : (s : m .State) (x : m .Step) (log : List ℕ) → p .room ≤ length log → Sound s → single m (p .sound) (p .room) s (some x) log .code ≡ 0
+      → Enabled o s x
+  pub does : (s : m .State) (x : m .Step) (log : List ℕ) → p .room ≤ length log → Sound s → Enabled o s x
+      → single m (p .sound) (p .room) s (some x) log ≡ record { code = 0; state = m .next s x; wrote = m .logs s x }
 
 pub record Demand2 (f log image : List ℕ) : Type 0 where
   -- "A step is accepted exactly when its transition in the source is enabled and the counter limit of document 01 isn't reached, and it then does what
@@ -146,20 +147,20 @@ pub record Demand2 (f log image : List ℕ) : Type 0 where
   pub fresh-counting : countingTo.Sound counting.freshState
   pub fresh-flag : (n : ℕ) (v : Bool) → 1 ≤ n → n ≤ limit.threads → flagTo.Sound (flag.freshState n v)
   -- single steps likewise
-  pub single-flat : SingleExact flatTo.flatCombine flatTo.Sound flatSound.sound
-  pub single-lock : SingleExact lockTo.distRwLock lockTo.Sound lockSound.sound
-  pub single-counting : SingleExact countingTo.countingPermissions countingTo.Sound countingSound.sound
-  pub single-flag : SingleExact flagTo.helping flagTo.Sound flagSound.sound
+  pub single-flat : SingleExact flatTo.flatCombine flatTo.Sound flatSingle.stepper
+  pub single-lock : SingleExact lockTo.distRwLock lockTo.Sound lockSingle.stepper
+  pub single-counting : SingleExact countingTo.countingPermissions countingTo.Sound countingSingle.stepper
+  pub single-flag : SingleExact flagTo.helping flagTo.Sound flagSingle.stepper
   -- "With buffers of document 01's sizes, a well-formed schedule is refused exactly at its first disabled step, by index and reason; a step at the limit
   -- counts as disabled": the field `exact` of each
   pub file-flat : (n : ℕ) (xs : List FlatStep) → decode f ≡ good (ofFlat n xs) → Room (length xs) log image
-      → Replays flatTo.flatCombine flatBytes.entryBytes flatBytes.imageBytes (flat.freshState n) xs log image (replayOf f log image)
+      → Replays flatRun.runner flatTo.flatCombine (flat.freshState n) xs log image (replayOf f log image)
   pub file-lock : (w t : ℕ) (xs : List LockStep) → decode f ≡ good (ofLock w t xs) → Room (length xs) log image
-      → Replays lockTo.distRwLock lockBytes.entryBytes lockBytes.imageBytes (lock.freshState w t) xs log image (replayOf f log image)
+      → Replays lockRun.runner lockTo.distRwLock (lock.freshState w t) xs log image (replayOf f log image)
   pub file-counting : (xs : List CountingStep) → decode f ≡ good (ofCounting xs) → Room (length xs) log image
-      → Replays countingTo.countingPermissions countingBytes.entryBytes countingBytes.imageBytes counting.freshState xs log image (replayOf f log image)
+      → Replays countingRun.runner countingTo.countingPermissions counting.freshState xs log image (replayOf f log image)
   pub file-flag : (n : ℕ) (v : Bool) (xs : List FlagStep) → decode f ≡ good (ofFlag n v xs) → Room (length xs) log image
-      → Replays flagTo.helping flagBytes.entryBytes flagBytes.imageBytes (flag.freshState n v) xs log image (replayOf f log image)
+      → Replays flagRun.runner flagTo.helping (flag.freshState n v) xs log image (replayOf f log image)
 
 -- ---------- 3
 
@@ -170,7 +171,8 @@ pub record Demand3 (f : List ℕ) : Type 0 where
       → lockDemand.Demand t (past lock.lock [] (lock.freshState w t) ys)
   -- the scope: "a cell equals its accepted shared_starts less its accepted shared_releases"
   pub cells : (w t : ℕ) (xs ys zs : List LockStep) → decode f ≡ good (ofLock w t xs) → xs ≡ ys ++ zs → AllEnabled lockTo.distRwLock (lock.freshState w t) ys
-      → let h = past lock.lock [] (lock.freshState w t) ys in (r : ℕ) → lock.cell (after lock.lock (lock.freshState w t) ys) r .count + lockDemand.sharedReleases h r ≡ lockDemand.sharedStarts h r
+      → let h = past lock.lock [] (lock.freshState w t) ys in
+      (r : ℕ) → lock.cell (after lock.lock (lock.freshState w t) ys) r .count + lockDemand.sharedReleases h r ≡ lockDemand.sharedStarts h r
   -- "a client's k-th answer belongs to its k-th request, with that request's id and the payload of the one combiner send made for it"
   pub answers : (n : ℕ) (xs ys zs : List FlatStep) → decode f ≡ good (ofFlat n xs) → xs ≡ ys ++ zs → AllEnabled flatTo.flatCombine (flat.freshState n) ys
       → flatDemand.Demand (past flat.flat [] (flat.freshState n) ys)

@@ -4,21 +4,18 @@ use mathlib.Core.List.{List}
 use Prim.Native.Nat.{ℕ, _+_}
 use lib.Dec.{ltb}
 use lib.ListN.{length}
-use Rattle.machine.specs.Rest.{Rested, untouched, restOf}
+use Rattle.machine.specs.Rest.{Rested, untouched}
 use Rattle.schedule.specs.Limits as limit
 use Rattle.machine.specs.Codes as code
 use Rattle.schedule.specs.Front.{faultCode, faultPlace}
+use Rattle.schedule.specs.Running.{runSteps}
 use Rattle.schedule.specs.Schedule.{Schedule, ofFlat, ofLock, ofCounting, ofFlag, Decoded, faulty, good, decode}
 use Rattle.schedule.specs.declared.steps.Params.{Params}
 use Rattle.schedule.specs.declared.steps.Params.the-variants.{Flat, Lock, Counting, Flag}
 use Rattle.flat.specs.Flat as flat
-use Rattle.flat.specs.Image as flatBytes
 use Rattle.lock.specs.Lock as lock
-use Rattle.lock.specs.Image as lockBytes
 use Rattle.counting.specs.Counting as counting
-use Rattle.counting.specs.Image as countingBytes
 use Rattle.flag.specs.Flag as flag
-use Rattle.flag.specs.Image as flagBytes
 use Rattle.flat_run.specs.Run as flatRun
 use Rattle.lock_run.specs.Run as lockRun
 use Rattle.counting_run.specs.Run as countingRun
@@ -26,11 +23,10 @@ use Rattle.flag_run.specs.Run as flagRun
 
 -- a schedule is replayed from the fresh machine of its kind and parameters; 8 where a buffer is too short for it
 abbrev pub replayed : Schedule → List ℕ → List ℕ → Rested
-replayed (ofFlat n xs) log image = restOf flat.flat flatBytes.entryBytes flatBytes.imageBytes limit.entry limit.image (flat.freshState n) xs log image
-replayed (ofLock w t xs) log image = restOf lock.lock lockBytes.entryBytes lockBytes.imageBytes limit.entry limit.image (lock.freshState w t) xs log image
-replayed (ofCounting xs) log image =
-    restOf counting.counting countingBytes.entryBytes countingBytes.imageBytes limit.entry limit.image counting.freshState xs log image
-replayed (ofFlag n v xs) log image = restOf flag.flag flagBytes.entryBytes flagBytes.imageBytes limit.entry limit.image (flag.freshState n v) xs log image
+replayed (ofFlat n xs) log image = runSteps flatRun.runner (flat.freshState n) xs log image
+replayed (ofLock w t xs) log image = runSteps lockRun.runner (lock.freshState w t) xs log image
+replayed (ofCounting xs) log image = runSteps countingRun.runner counting.freshState xs log image
+replayed (ofFlag n v xs) log image = runSteps flagRun.runner (flag.freshState n v) xs log image
 
 -- a file with a fault is refused with its code and place, 1 to 7
 abbrev pub answered : Decoded → List ℕ → List ℕ → Rested

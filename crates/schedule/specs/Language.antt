@@ -1,9 +1,8 @@
 -- How the steps of a kind are written: a length byte, a tag, and the step's numbers. Assumes nothing.
 use Prim.Native.Nat.{ℕ, _+_, _<_, _^_}
 use mathlib.Core.List.{List, [], _∷_, _++_}
-use lib.ListN.{drop}
 use Rattle.rows.specs.Bytes.{numberAt, big}
-use Rattle.schedule.specs.Widths.{widthsOf, lengthOf, numberWidths}
+use Rattle.schedule.specs.Widths.{lengthOf, numberWidths}
 
 -- the tag and the numbers of a kind's steps, and the step that a tag and numbers make
 pub record Language (S : Type 0) : Type 0 where

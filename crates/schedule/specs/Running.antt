@@ -7,7 +7,7 @@ use lib.Dec.{eqb}
 use Rattle.machine.specs.Machine.{Machine}
 use Rattle.machine.specs.Replay.{replay}
 use Rattle.machine.specs.Loop.{stepsFrom, Formed, Left, left}
-use Rattle.machine.specs.Rest.{Rested, untouched}
+use Rattle.machine.specs.Rest.{Rested, untouched, restOf}
 use Rattle.schedule.specs.Limits as limit
 use Rattle.schedule.specs.Language.{Language, stepAt, sizeOf}
 use Rattle.schedule.specs.Counting.{countedOf}
@@ -36,6 +36,10 @@ module _ (p : Runner) where
   -- a run leaves what the replay of these steps leaves, with its entries in the log from `used` on
   pub record Ended (f : List ℕ) (from n : ℕ) (q : p .machine .State) (log : List ℕ) (used : ℕ) (e : Left (p .machine)) : Type 0 where
     pub ended : e ≡ left (p .bytes) log used (replay (p .machine) q 0 (stepsFrom (stepAt (p .language)) (sizeOf (p .language)) f from n))
+
+  -- steps replayed from a state, into the caller's buffers
+  abbrev pub runSteps : p .machine .State → List (p .machine .Step) → List ℕ → List ℕ → Rested
+  runSteps s xs log image = restOf (p .machine) (p .bytes) (p .image) limit.entry limit.image s xs log image
 
   -- the rest of the file, replayed from a state
   abbrev pub restRun : p .machine .State → List ℕ → ℕ → List ℕ → List ℕ → Rested

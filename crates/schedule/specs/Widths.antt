@@ -1,6 +1,6 @@
 -- What a step is made of: the width of its tag and of each of its numbers, by kind and tag. The scope, "The schedule file". Assumes nothing.
 use mathlib.Core.Path.{_≡_}
-use Prim.Native.Nat.{ℕ, _+_, _<_}
+use Prim.Native.Nat.{ℕ, _<_}
 use mathlib.Core.List.{List, [], _∷_}
 use lib.ListN.{getD, drop}
 use Rattle.rows.specs.Walk.{sum}

@@ -1,5 +1,5 @@
 -- What a call leaves, from what the machine answered and what was laid over the state. Assumes nothing.
-use mathlib.Core.Path.{_≡_, refl, sym, ap, _∙_}
+use mathlib.Core.Path.{_≡_, refl, sym, _∙_}
 use mathlib.Core.List.{List, append-nil}
 use Prim.Native.Nat.{ℕ, _≤_, _<_}
 use native.Mathlib.Omega.{arith}
@@ -12,7 +12,7 @@ use Rattle.rows.proofs.Rows.{drop-end}
 use Rattle.rows.proofs.Stores.{puts-over, laid-whole}
 use Rattle.machine.specs.Codes as code
 use Rattle.machine.specs.Machine.{Machine}
-use Rattle.machine.specs.Single.{Single, single, Singled}
+use Rattle.machine.specs.Single.{Singled}
 use Rattle.schedule.specs.Limits as limit
 use Rattle.schedule.specs.Widths as kinds
 use Rattle.schedule.specs.declared.steps.Step.{Step}
@@ -25,7 +25,7 @@ use Rattle.flag.specs.declared.single.Answer as flag-answer
 use Rattle.flat.specs.declared.state.State as flat-state
 use Rattle.flat.specs.declared.single.Answer as flat-answer
 use Rattle.raw.proofs.Writes.{lock-length, flag-length, flat-length}
-use Rattle.single_call.specs.Call.{askedBy, unlogged, Stepped, RawStepper, StepLeaves, singleFrom, stepped, steppedBy, exported, ExportLeaves, flatRaw, lockRaw, countingRaw, flagRaw}
+use Rattle.single_call.specs.Call.{askedBy, unlogged, RawStepper, StepLeaves, singleFrom, stepped, steppedBy, exported, ExportLeaves, flatRaw, lockRaw, countingRaw, flagRaw}
 use Rattle.single_call.specs.declared.Called.{Called}
 use Rattle.single_call.specs.declared.Asked.{Asked}
 use Rattle.single_call.specs.declared.Asked.the-variants.{Malformed, One}

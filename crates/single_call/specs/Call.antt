@@ -13,7 +13,6 @@ use Rattle.machine.specs.Machine.{Machine}
 use Rattle.machine.specs.Single.{Single, single, Stepper}
 use Rattle.schedule.specs.Widths as kinds
 use Rattle.schedule.specs.Finding.{foundAt}
-use Rattle.schedule.specs.declared.steps.Step.{Step}
 use Rattle.schedule.specs.declared.read.Found.{Found}
 use Rattle.schedule.specs.declared.read.Found.the-variants.{End, Broken, Whole}
 use Rattle.counting.specs.Counting.{counting}

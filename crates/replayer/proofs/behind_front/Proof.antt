@@ -3,9 +3,6 @@ use borrow.Author.Needs.{needs}
 use Rattle.replayer.proofs.Behind.{as-flat, as-lock, as-counting, as-flag}
 use Rattle.replayer.proofs.behind_front.Statement.{statement}
 use Rattle.replayer.proofs.behind_front.Tie as tie
-use Rattle.flag_run.proofs.rest.Reads as rest-reads′
-use Rattle.flat_run.proofs.rest.Reads as rest-reads′′
-use Rattle.lock_run.proofs.rest.Reads as rest-reads′′′
 
 enum-known-params : tie.Need-enum-known-params
 enum-known-params c = search needs
