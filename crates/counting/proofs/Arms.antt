@@ -1,5 +1,4 @@
--- Each step of a sound state, as its transition answers it: the code is the step's, and the state is the one after it, or the same where it is refused.
--- Assumes nothing.
+-- What each step comes to in the whole state: its code, and the state after it or the same. The single step and the replay loop both cite it. Assumes nothing.
 use mathlib.Core.Path.{_≡_, refl}
 use mathlib.Core.Bool.{true}
 use Rattle.machine.proofs.Steps.{code-accepted}

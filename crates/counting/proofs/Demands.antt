@@ -16,12 +16,12 @@ use Rattle.schedule.specs.declared.steps.CountingStep.{CountingStep}
 use Rattle.schedule.specs.declared.steps.CountingStep.the-variants.{WriteableToReadable, ReadableToWriteable, NewRef, DeleteRef}
 use Rattle.counting.specs.Counting.{counting, freshState, next}
 use Rattle.counting.specs.Refined.{abs, Sound}
-use Rattle.counting.specs.Demand.{Hist, granted, deleted, Held, stored, Demanded}
+use Rattle.counting.specs.Demand.{Hist, granted, deleted, Held, stored, Demanded, RefsCounted}
 use Rattle.counting.specs.declared.state.State.{State}
 use Rattle.counting.specs.declared.entry.Entry.{Entry}
 use Rattle.counting.specs.declared.entry.Entry.the-variants.{Withdrawn, Granted}
 use Rattle.counting.proofs.Inductive.{compare-refs, read-ref-guards}
-use Rattle.counting.proofs.Sounds.{only-none, none-same, sound-means, fresh-sound, counted-none}
+use Rattle.counting.proofs.Sounds.{only-none, none-same, fresh-means, counted-none}
 use Rattle.counting.proofs.Kept.{accepted-sound}
 use Rattle.counting.proofs.Posts.{accepted-logs}
 
@@ -69,7 +69,7 @@ keep h s (DeleteRef t) i a =
     }
 
 fresh : Inv [] freshState
-fresh = record { right = sound-means freshState fresh-sound; flow = λ u. rw (only-none 0 u); store = refl }
+fresh = record { right = fresh-means; flow = λ u. rw (only-none 0 u); store = refl }
 
 pub run-inv : {h : Hist} {s : State} → Run counting freshState h s → Inv h s
 run-inv r = always counting freshState Inv fresh keep r
@@ -118,3 +118,6 @@ demanded h s r =
       withdrawn = λ later before es. withdrawn h later before s es r;
       handed-out = λ later before es. handed-out h later before s es r;
     }
+
+pub refs-counted : RefsCounted
+refs-counted h s r = let i = run-inv r in (i .flow, i .store)

@@ -1,4 +1,4 @@
--- Of a sound state, a step is accepted exactly when the source's transition is enabled below the limit. Assumes nothing.
+-- Of a sound state, a step is accepted exactly when it is enabled: the source's transition leads somewhere, below the limit. Assumes nothing.
 use Prim.Native.Nat.{ℕ, _≤_}
 use mathlib.Core.Path.{_≡_, refl, _∙_}
 use mathlib.Core.Bool.{Bool, true, false}

@@ -17,8 +17,8 @@ use Rattle.counting.specs.Invariants.{main-inv}
 
 -- ---------- what the invariant says where the counter is known
 
-abbrev machine : Option ℕ → Option (ℕ × ℕ) → Multiset ℕ → CountingPermissions
-machine stored counter refs = record { stored = stored; main-counter = counter; read-ref = refs }
+abbrev permissions : Option ℕ → Option (ℕ × ℕ) → Multiset ℕ → CountingPermissions
+permissions stored counter refs = record { stored = stored; main-counter = counter; read-ref = refs }
 
 -- two counters that are equal: `cc` takes a constructor apart, and no pair
 pub same-counter : {a b c d : ℕ} → _≡_ {A = Option (ℕ × ℕ)} (some (a, b)) (some (c, d)) → (a ≡ c) × (b ≡ d)
@@ -35,7 +35,7 @@ pub record Counted (m : CountingPermissions) (count t : ℕ) : Type 0 where
 pub counted : (m : CountingPermissions) (count t : ℕ) → main-inv m → m .main-counter ≡ some (count, t) → Counted m count t
 counted m count t i e = go (m .stored) (m .main-counter) i e
   where
-    go : (o : Option ℕ) (k : Option (ℕ × ℕ)) → main-inv (machine o k (m .read-ref)) → k ≡ some (count, t) → Counted (machine o k (m .read-ref)) count t
+    go : (o : Option ℕ) (k : Option (ℕ × ℕ)) → main-inv (permissions o k (m .read-ref)) → k ≡ some (count, t) → Counted (permissions o k (m .read-ref)) count t
     go none k i e = clash (cc (i .0))
     go (some v) none i e = absurd i
     go (some v) (some k) i e =
@@ -51,7 +51,7 @@ pub record Uncounted (m : CountingPermissions) : Type 0 where
 pub uncounted : (m : CountingPermissions) → main-inv m → m .main-counter ≡ none → Uncounted m
 uncounted m i e = go (m .stored) (m .main-counter) i e
   where
-    go : (o : Option ℕ) (k : Option (ℕ × ℕ)) → main-inv (machine o k (m .read-ref)) → k ≡ none → Uncounted (machine o k (m .read-ref))
+    go : (o : Option ℕ) (k : Option (ℕ × ℕ)) → main-inv (permissions o k (m .read-ref)) → k ≡ none → Uncounted (permissions o k (m .read-ref))
     go none k i e = record { store = refl; nobody = i .1 }
     go (some v) none i e = absurd i
     go (some v) (some k) i e = clash (cc)
@@ -82,16 +82,13 @@ counter-guards m i count t e = counted m count t i e .store
 
 -- ---------- the transitions
 
-pub new-inductive : main-inv new
-new-inductive = (refl, λ u. refl)
-
 module _ (pre post : CountingPermissions) (i : main-inv pre) where
-  pub writeable-to-readable-inductive : (t : ℕ) → Writeable-to-readable pre t post → main-inv post
+  writeable-to-readable-inductive : (t : ℕ) → Writeable-to-readable pre t post → main-inv post
   writeable-to-readable-inductive t v =
       let k = uncounted pre i (v .require) in
       rw (v .update) (refl, k .nobody t, λ u n. k .nobody u)
 
-  pub readable-to-writeable-inductive : Readable-to-writeable pre post → main-inv post
+  readable-to-writeable-inductive : Readable-to-writeable pre post → main-inv post
   readable-to-writeable-inductive v = rw (v .update) (refl, nobody)
     where
       nobody : (u : ℕ) → pre .read-ref u ≡ 0
@@ -99,7 +96,7 @@ module _ (pre post : CountingPermissions) (i : main-inv pre) where
           let k = counted pre (v .count) (v .t) i (v .require) in
           on (eqb u (v .t)) (λ b. rw (eqb-true u (v .t) b) (k .here ∙ v .require-zero)) (λ b. k .elsewhere u (eqb-false u (v .t) b))
 
-  pub new-ref-inductive : New-ref pre post → main-inv post
+  new-ref-inductive : New-ref pre post → main-inv post
   new-ref-inductive v =
       let k = counted pre (v .count) (v .t) i (v .require) in
       let r = pre .read-ref in
@@ -107,16 +104,18 @@ module _ (pre post : CountingPermissions) (i : main-inv pre) where
       (refl, insert-here r (v .t) ∙ rw (k .here), λ u n. insert-other r (v .t) u n ∙ k .elsewhere u n)
 
   -- the reference that goes carries the counter's value
-  pub deletes-own : (t1 : ℕ) (v : Delete-ref pre t1 post) → t1 ≡ v .t2
+  deletes-own : (t1 : ℕ) (v : Delete-ref pre t1 post) → t1 ≡ v .t2
   deletes-own t1 v = compare-ref-and-counter pre i t1 (v .count) (v .t2) (v .removes) (v .require)
 
-  pub delete-ref-inductive : (t1 : ℕ) → Delete-ref pre t1 post → main-inv post
+  delete-ref-inductive : (t1 : ℕ) → Delete-ref pre t1 post → main-inv post
   delete-ref-inductive t1 v =
       let q = deletes-own t1 v in
       let k = counted pre (v .count) t1 i (rw q (v .require)) in
       let r = pre .read-ref in
       rw (v .update, k .store)
       (refl, remove-here r t1 ∙ rw (k .here), λ u n. remove-other r t1 u n ∙ k .elsewhere u n)
+
+-- ---------- every transition
 
 pub inductive : (x : Transition) (pre post : CountingPermissions) → main-inv pre → Moves pre x post → main-inv post
 inductive (writeable-to-readable t) pre post i v = writeable-to-readable-inductive pre post i t v
@@ -134,3 +133,8 @@ safe new-ref pre post i v = tt
 safe (delete-ref t1) pre post i v =
     let e = rw (← deletes-own pre post i t1 v) at (v .require) in
     (v .count, e, rw (counted pre (v .count) t1 i e .here) at (v .removes))
+
+-- ---------- `new`
+
+pub new-inductive : main-inv new
+new-inductive = (refl, λ u. refl)

@@ -1,13 +1,10 @@
--- An accepted step of a sound state does what the source says: it leads where the source's transition leads, and there alone; it logs what the source
--- hands out; and what the source deposits and withdraws is safe. Assumes nothing.
+-- What an accepted step does in the source: where it leads, to no other state, what it hands out, and that its deposits and withdrawals are safe. Assumes nothing.
 use Prim.Native.Nat.{ℕ}
 use mathlib.Core.Path.{_≡_, refl, sym, _∙_}
 use mathlib.Core.Bool.{Bool, true, false}
-use mathlib.Core.Option.{Option}
 use borrow.Author.Tests.{eqb-true, ltb-true}
 use Rattle.rows.proofs.Cases.{clash}
 use Rattle.machine.specs.Machine.{Accepted}
-use Rattle.machine.specs.Multiset.{Multiset}
 use Rattle.machine.proofs.Multisets.{insert-at-only, remove-at-only}
 use Rattle.schedule.specs.declared.steps.CountingStep.{CountingStep}
 use Rattle.schedule.specs.declared.steps.CountingStep.the-variants.{WriteableToReadable, ReadableToWriteable, NewRef, DeleteRef}
@@ -17,12 +14,7 @@ use Rattle.counting.specs.Counting.{counting, next, logs}
 use Rattle.counting.specs.Refined.{abs, label, Sound, HandsOut}
 use Rattle.counting.specs.declared.state.State.{State}
 use Rattle.counting.proofs.Inductive.{same-counter, safe}
-use Rattle.counting.proofs.Sounds.{state, none-same, counted-none}
-
--- two states of the source are equal by their fields, the references pointwise
-pub same-permissions : {o o′ : Option ℕ} {k k′ : Option (ℕ × ℕ)} {f f′ : Multiset ℕ} → o ≡ o′ → k ≡ k′ → ((u : ℕ) → f u ≡ f′ u)
-    → _≡_ {A = CountingPermissions} (record { stored = o; main-counter = k; read-ref = f }) (record { stored = o′; main-counter = k′; read-ref = f′ })
-same-permissions p q r = λ i. record { stored = p i; main-counter = q i; read-ref = λ u. r u i }
+use Rattle.counting.proofs.Sounds.{state, none-same, same-permissions, counted-none}
 
 -- ---------- an accepted step is the source's transition, to what the state after it stands for
 

@@ -1,20 +1,27 @@
--- The machine and its source, all of it; and every state that a history leads to from the fresh machine is sound. Assumes nothing.
-use mathlib.Core.Path.{_≡_, refl}
+-- The machine and its source: all that specs/Refined.antt asks for; and every state that a history leads to from a fresh machine is sound. Assumes nothing.
 use Rattle.machine.specs.History.{Run}
 use Rattle.machine.proofs.Runs.{always}
 use Rattle.counting.specs.Source as source
+use Rattle.counting.specs.Source.{Transition}
+use Rattle.schedule.specs.declared.steps.CountingStep.{CountingStep}
+use Rattle.schedule.specs.declared.steps.CountingStep.the-variants.{WriteableToReadable, ReadableToWriteable, NewRef, DeleteRef}
+use Rattle.counting.proofs.Inductive as source-own
+use mathlib.Core.Path.{_≡_, refl}
 use Rattle.counting.specs.Counting.{counting, freshState}
-use Rattle.counting.specs.Refined.{abs, Sound, Refines}
+use Rattle.counting.specs.Refined.{label, Sound, Refines}
 use Rattle.counting.specs.Demand.{Hist}
 use Rattle.counting.specs.declared.state.State.{State}
-use Rattle.counting.proofs.Inductive as own
-use Rattle.counting.proofs.Sounds.{only-none, sound-means, means-sound, fresh-sound}
+use Rattle.counting.proofs.Sounds.{sound-means, means-sound, fresh-new, fresh-means, fresh-sound}
 use Rattle.counting.proofs.Kept.{accepted-sound}
 use Rattle.counting.proofs.Enabling.{accepted-enabled, enabled-accepted}
-use Rattle.counting.proofs.Posts.{same-permissions, accepted-moves, accepted-post, accepted-logs, accepted-safe}
+use Rattle.counting.proofs.Posts.{accepted-moves, accepted-post, accepted-logs, accepted-safe}
 
-pub fresh-new : abs freshState ≡ source.new
-fresh-new = same-permissions refl refl (only-none 0)
+-- every transition of the source is some step's
+onto : (y : Transition) → (x : CountingStep) × (label x ≡ y)
+onto (source.writeable-to-readable t) = (WriteableToReadable t, refl)
+onto source.readable-to-writeable = (ReadableToWriteable, refl)
+onto source.new-ref = (NewRef, refl)
+onto (source.delete-ref t) = (DeleteRef t, refl)
 
 pub refines : Refines
 refines =
@@ -25,6 +32,7 @@ refines =
       means-sound = means-sound;
       upholds =
           record {
+            onto = onto;
             accepted-enabled = accepted-enabled;
             enabled-accepted = enabled-accepted;
             accepted-moves = accepted-moves;
@@ -33,11 +41,13 @@ refines =
             accepted-safe = accepted-safe;
             accepted-good = accepted-sound;
           };
-      compare-refs = λ s k. own.compare-refs (abs s) (k .inv);
-      compare-ref-and-counter = λ s k. own.compare-ref-and-counter (abs s) (k .inv);
-      read-ref-guards = λ s k. own.read-ref-guards (abs s) (k .inv);
-      counter-guards = λ s k. own.counter-guards (abs s) (k .inv);
+      initial = source-own.new-inductive;
+      inductive = record { kept = source-own.inductive; safe = source-own.safe };
+      compare-refs = source-own.compare-refs;
+      compare-ref-and-counter = source-own.compare-ref-and-counter;
+      read-ref-guards = source-own.read-ref-guards;
+      counter-guards = source-own.counter-guards;
     }
 
 pub every-prefix-sound : {h : Hist} {s : State} → Run counting freshState h s → Sound s
-every-prefix-sound r = always counting freshState (λ h s. Sound s) (sound-means freshState fresh-sound) (λ h s x k a. accepted-sound s x k a) r
+every-prefix-sound r = always counting freshState (λ h s. Sound s) fresh-means (λ h s x k a. accepted-sound s x k a) r

@@ -1,4 +1,4 @@
--- Each public function's promise settles its answer: two answers that meet it are equal, and so are the bytes that they leave. Assumes nothing.
+-- Each contract settles its answer: two answers that meet a function's promise are equal, and so are the bytes that they leave. Assumes nothing.
 use mathlib.Core.Path.{_≡_}
 use mathlib.Core.Bool.{Bool}
 use mathlib.Core.List.{List}
@@ -17,6 +17,8 @@ use Rattle.counting.specs.declared.entry.Entry.{Entry}
 use Rattle.counting.specs.declared.moves.Moved.{Moved}
 use Rattle.counting.specs.declared.single.Answer.{Answer}
 
+-- ---------- state and sound
+
 pub fresh-settled : {r q : State} → r ≡ freshState → q ≡ freshState → r ≡ q
 fresh-settled = settled
 
@@ -26,10 +28,7 @@ is-sound-settled s = settled
 pub image-settled : (s : State) {l : List ℕ} {r q : ℕ} {l′ m : List ℕ} → Laid l 0 (imageBytes s) r l′ → Laid l 0 (imageBytes s) q m → (r ≡ q) × (l′ ≡ m)
 image-settled s = laid-settled
 
-pub put-entry-settled : (e : Entry) {l : List ℕ} {at r q : ℕ} {l′ m : List ℕ} → Laid l at (entryBytes e) r l′ → Laid l at (entryBytes e) q m → (r ≡ q) × (l′ ≡ m)
-put-entry-settled e = laid-settled
-
--- ---------- the transitions
+-- ---------- moves
 
 module _ (s : State) where
   pub writeable-to-readable-settled : (t : ℕ) {r q : Moved} → r ≡ moved s (WriteableToReadable t) → q ≡ moved s (WriteableToReadable t) → r ≡ q
@@ -44,7 +43,12 @@ module _ (s : State) where
   pub delete-ref-settled : (t : ℕ) {r q : Moved} → r ≡ moved s (DeleteRef t) → q ≡ moved s (DeleteRef t) → r ≡ q
   delete-ref-settled t = settled
 
--- ---------- the single step: its answer, and the log
+-- ---------- entry
+
+pub put-entry-settled : (e : Entry) {l : List ℕ} {at r q : ℕ} {l′ m : List ℕ} → Laid l at (entryBytes e) r l′ → Laid l at (entryBytes e) q m → (r ≡ q) × (l′ ≡ m)
+put-entry-settled e = laid-settled
+
+-- ---------- single
 
 pub single-settled : (s : State) (x : Step) (l : List ℕ) {r q : Answer} {l′ m : List ℕ} → Singled s x l r l′ → Singled s x l q m → (r ≡ q) × (l′ ≡ m)
 single-settled s x l a b = (settled (a .answer) (b .answer), settled (a .log) (b .log))

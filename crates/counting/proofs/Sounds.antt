@@ -2,15 +2,18 @@
 use Prim.Native.Nat.{ℕ}
 use mathlib.Core.Path.{_≡_, refl, sym, _∙_}
 use mathlib.Core.Bool.{Bool, true, false, cond, _&&_}
+use mathlib.Core.Option.{Option}
 use native.Mathlib.Omega.{arith}
 use lib.Dec.{eqb, leb}
 use borrow.Author.Tests.{eqb-true, eq-eqb, leb-true, le-leb}
 use Rattle.rows.proofs.Cases.{clash, both-true, true-both}
+use Rattle.machine.specs.Multiset.{Multiset}
 use Rattle.machine.proofs.Multisets.{only, only-here, only-other}
 use Rattle.schedule.specs.Limits as limit
+use Rattle.counting.specs.Source.{CountingPermissions, new}
 use Rattle.counting.specs.Counting.{freshState}
 use Rattle.counting.specs.Sound.{sound}
-use Rattle.counting.specs.Refined.{Sound}
+use Rattle.counting.specs.Refined.{abs, Sound}
 use Rattle.counting.specs.declared.state.State.{State}
 use Rattle.counting.proofs.Moved.{refs-counted}
 
@@ -28,6 +31,11 @@ only-none t u = same (eqb u t)
 
 pub none-same : (t t′ n : ℕ) → n ≡ 0 → (u : ℕ) → only t n u ≡ only t′ n u
 none-same t t′ n z u = rw z (only-none t u ∙ sym (only-none t′ u))
+
+-- two states of the source are equal by their fields, the references pointwise
+pub same-permissions : {o o′ : Option ℕ} {k k′ : Option (ℕ × ℕ)} {f f′ : Multiset ℕ} → o ≡ o′ → k ≡ k′ → ((u : ℕ) → f u ≡ f′ u)
+    → _≡_ {A = CountingPermissions} (record { stored = o; main-counter = k; read-ref = f }) (record { stored = o′; main-counter = k′; read-ref = f′ })
+same-permissions p q r = λ i. record { stored = p i; main-counter = q i; read-ref = λ u. r u i }
 
 -- ---------- the test says it
 
@@ -64,10 +72,19 @@ tests false t count refs h =
 pub means-sound : (s : State) → Sound s → sound s ≡ true
 means-sound s h = tests (s .present) (s .t) (s .count) (s .refs) h
 
-pub fresh-sound : sound freshState ≡ true
-fresh-sound = refl
-
 -- ---------- a counter at 0: no reference either
 
 pub counted-none : (s : State) → Sound s → s .present ≡ true → eqb (s .count) 0 ≡ true → s .refs ≡ 0
 counted-none s k p e = refs-counted s (means-sound s k) p ∙ eqb-true (s .count) 0 e
+
+-- ---------- a fresh machine
+
+pub fresh-sound : sound freshState ≡ true
+fresh-sound = refl
+
+pub fresh-means : Sound freshState
+fresh-means = sound-means freshState fresh-sound
+
+-- it is the source's
+pub fresh-new : abs freshState ≡ new
+fresh-new = same-permissions refl refl (only-none 0)

@@ -1,4 +1,4 @@
--- The table of cases holds of the machine as defined: one claim, proved by computing it. Assumes nothing.
+-- The tables of cases hold of the machine as defined: one claim, proved by computing it. Assumes nothing.
 use mathlib.Core.Path.{refl}
 use Rattle.machine.specs.Replay.{replay}
 use Rattle.counting.specs.Cases.{Tabled}

@@ -14,7 +14,6 @@ use Rattle.schedule.specs.declared.steps.CountingStep.{CountingStep}
 use Rattle.schedule.specs.declared.steps.CountingStep.the-variants.{WriteableToReadable, ReadableToWriteable, NewRef, DeleteRef}
 use Rattle.counting.specs.Counting.{logs}
 use Rattle.counting.specs.Image.{tagged, entryBytes, imageBytes}
-use Rattle.counting.specs.declared.entry.Entry.{Entry}
 use Rattle.counting.specs.declared.state.State.{State}
 
 module _ (l : List ℕ) (at tag t : ℕ) (h : 6 ≤ length l) (p : at ≤ length l - 6) (r : ℕ) (l′ : List ℕ) where
@@ -43,7 +42,3 @@ logs-short s (WriteableToReadable t) = omega arith
 logs-short s ReadableToWriteable = omega arith
 logs-short s NewRef = omega arith
 logs-short s (DeleteRef t) = omega arith
-
--- an entry that was matched
-pub entry-laid : (e e′ : Entry) (l : List ℕ) (at r : ℕ) (l′ : List ℕ) → e ≡ e′ → Laid l at (entryBytes e′) r l′ → Laid l at (entryBytes e) r l′
-entry-laid e e′ l at r l′ p k = rw p k

@@ -45,11 +45,15 @@ cases =
     ∷ refuses freshState (DeleteRef 0) 12 (0 ∷ 0 ∷ 0 ∷ 0 ∷ 0 ∷ 0 ∷ 0 ∷ [])
     ∷ refuses (storing 5 0) (DeleteRef 5) 17 (1 ∷ 0 ∷ 0 ∷ 0 ∷ 5 ∷ 0 ∷ 0 ∷ [])
     ∷ refuses (storing 5 1) (DeleteRef 6) 17 (1 ∷ 0 ∷ 0 ∷ 0 ∷ 5 ∷ 1 ∷ 1 ∷ [])
+    -- from fresh: stored, handed out, given back, withdrawn; and a withdrawal too early
+    ∷ runs freshState (WriteableToReadable 5 ∷ NewRef ∷ DeleteRef 5 ∷ ReadableToWriteable ∷ []) 0 4 (0 ∷ 0 ∷ 0 ∷ 0 ∷ 0 ∷ 0 ∷ 0 ∷ [])
+    (5 ∷ 2 ∷ 0 ∷ 0 ∷ 0 ∷ 5 ∷ 5 ∷ 1 ∷ 0 ∷ 0 ∷ 0 ∷ 5 ∷ [])
+    ∷ runs freshState (WriteableToReadable 5 ∷ NewRef ∷ ReadableToWriteable ∷ []) 16 2 (1 ∷ 0 ∷ 0 ∷ 0 ∷ 5 ∷ 1 ∷ 1 ∷ []) (5 ∷ 2 ∷ 0 ∷ 0 ∷ 0 ∷ 5 ∷ [])
     ∷ []
 
 -- rows with one thing wrong in each: the code, the place, the image, whether the state is sound, the log
-abbrev pub wrongs : List (Case counting)
-wrongs =
+abbrev pub wrongCases : List (Case counting)
+wrongCases =
     runs freshState (WriteableToReadable 5 ∷ []) 12 1 (1 ∷ 0 ∷ 0 ∷ 0 ∷ 5 ∷ 0 ∷ 0 ∷ []) []
     ∷ runs freshState (WriteableToReadable 5 ∷ []) 0 0 (1 ∷ 0 ∷ 0 ∷ 0 ∷ 5 ∷ 0 ∷ 0 ∷ []) []
     ∷ does freshState (WriteableToReadable 5) (1 ∷ 0 ∷ 0 ∷ 0 ∷ 6 ∷ 0 ∷ 0 ∷ []) []
@@ -58,4 +62,4 @@ wrongs =
     ∷ []
 
 abbrev pub Tabled : Type 0
-Tabled = (allRight counting sound imageBytes entryBytes cases && allWrong counting sound imageBytes entryBytes wrongs) ≡ true
+Tabled = (allRight counting sound imageBytes entryBytes cases && allWrong counting sound imageBytes entryBytes wrongCases) ≡ true

@@ -14,9 +14,12 @@ use Rattle.counting.specs.declared.state.State.{State}
 use Rattle.counting.specs.declared.entry.Entry.{Entry}
 use Rattle.counting.specs.declared.entry.Entry.the-variants.{Withdrawn, Granted}
 
--- nothing stored, no counter, no reference
+-- ---------- fresh: nothing stored, no counter, no reference
+
 abbrev pub freshState : State
 freshState = record { t = 0; count = 0; refs = 0; present = false }
+
+-- ---------- the tests
 
 -- writeable_to_readable needs no counter; the others need one. delete_ref takes off that very reference
 abbrev pub tests : State → CountingStep → List Check
@@ -24,6 +27,8 @@ tests s (WriteableToReadable t) = need code.phase (not (s .present)) ∷ []
 tests s ReadableToWriteable = need code.phase (s .present) ∷ need code.count (eqb (s .count) 0) ∷ []
 tests s NewRef = need code.phase (s .present) ∷ need code.full (ltb (s .count) limit.counter) ∷ []
 tests s (DeleteRef t) = need code.phase (s .present) ∷ need code.missing (ltb 0 (s .refs)) ∷ need code.missing (eqb t (s .t)) ∷ []
+
+-- ---------- the state after, and what is logged
 
 abbrev pub next : State → CountingStep → State
 next s (WriteableToReadable t) = record { t = t; count = 0; refs = s .refs; present = true }

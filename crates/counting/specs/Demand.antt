@@ -1,7 +1,7 @@
 -- Demand 3's share of the counting machine, said of an accepted history alone. Proved in proofs/Demands.antt. Assumes nothing.
-use Prim.Native.Nat.{ℕ, _≤_, _<_}
+use Prim.Native.Nat.{ℕ, _+_, _≤_, _<_}
 use mathlib.Core.Path.{_≡_}
-use mathlib.Core.Bool.{Bool, false}
+use mathlib.Core.Bool.{Bool, false, cond}
 use mathlib.Core.List.{List, [], _∷_, _++_}
 use mathlib.Core.Option.{Option, none, some}
 use lib.Dec.{eqb}
@@ -16,7 +16,7 @@ use Rattle.counting.specs.declared.entry.Entry.the-variants.{Withdrawn, 
 abbrev pub Hist : Type 0
 Hist = History counting
 
--- ---------- what a history says
+-- ---------- what is counted
 
 -- a new_ref logged the value u; the step deletes a reference to u
 abbrev pub grants : ℕ → Entry → Bool
@@ -66,6 +66,12 @@ pub record Demand (h : Hist) : Type 0 where
   pub handed-out : (later before : Hist) (es : List Entry) → h ≡ later ++ (record { did = NewRef; wrote = es } ∷ before)
       → (t : ℕ) × (stored before ≡ some t) × (es ≡ Granted t ∷ [])
 
--- after every accepted prefix from the fresh machine
+-- after every accepted prefix from a fresh machine
 abbrev pub Demanded : Type 0
 Demanded = (h : Hist) (s : State) → Run counting freshState h s → Demand h
+
+-- and the references in the state are counted: of each value, those handed out are those given back and those that the state has, and what it stores is what
+-- the history says
+abbrev pub RefsCounted : Type 0
+RefsCounted = (h : Hist) (s : State) → Run counting freshState h s
+    → ((u : ℕ) → granted h u ≡ deleted h u + cond (eqb u (s .t)) (s .refs) 0) × (stored h ≡ cond (s .present) (some (s .t)) none)

@@ -1,11 +1,11 @@
--- How a state stands for the source's, and what is proved of the two, in proofs/Refines.antt. Assumes nothing.
+-- How a state stands for the source's, and what is proved of the two: proofs/Refines.antt. Assumes nothing.
 use Prim.Native.Nat.{ℕ, _≤_}
 use mathlib.Core.Path.{_≡_}
 use mathlib.Core.Bool.{true, false, cond}
 use mathlib.Core.List.{List, [], _∷_}
 use mathlib.Core.Option.{none, some}
 use lib.Dec.{eqb}
-use Rattle.machine.specs.Sourced.{Sourced, Upholds}
+use Rattle.machine.specs.Sourced.{Sourced, Inductive, Upholds}
 use Rattle.schedule.specs.Limits as limit
 use Rattle.schedule.specs.declared.steps.CountingStep.{CountingStep}
 use Rattle.schedule.specs.declared.steps.CountingStep.the-variants.{WriteableToReadable, ReadableToWriteable, NewRef, DeleteRef}
@@ -56,7 +56,7 @@ HandsOut pre source.readable-to-writeable es = (t : ℕ) × (pre .stored ≡ som
 HandsOut pre source.new-ref es = (count t : ℕ) × (pre .main-counter ≡ some (count, t)) × (es ≡ Granted t ∷ [])
 HandsOut pre (source.delete-ref t1) es = es ≡ []
 
--- the machine beside counting.rs: `Enabled`, `Path`, `Exact` of machine/specs/Sourced.antt are said of it
+-- the machine beside counting.rs: `Enabled`, `Path` and `Exact` of machine/specs/Sourced.antt are said of it
 abbrev pub countingPermissions : Sourced counting
 countingPermissions =
     record {
@@ -81,8 +81,11 @@ pub record Refines : Type 0 where
   pub means-sound : (s : State) → Sound s → sound s ≡ true
   -- of a sound state: a step is accepted exactly when it is enabled, and then does what the source says and leaves a sound state
   pub upholds : Upholds countingPermissions Sound
-  -- the source's properties hold of every sound state
-  pub compare-refs : (s : State) → Sound s → invariants.compare-refs (abs s)
-  pub compare-ref-and-counter : (s : State) → Sound s → invariants.compare-ref-and-counter (abs s)
-  pub read-ref-guards : (s : State) → Sound s → invariants.read-ref-guards (abs s)
-  pub counter-guards : (s : State) → Sound s → invariants.counter-guards (abs s)
+  -- the source's own proofs, over all of its states: it starts with its invariants, and its transitions keep them
+  pub initial : main-inv source.new
+  pub inductive : Inductive countingPermissions main-inv
+  -- the source's properties follow from its invariant, so they hold of every sound state
+  pub compare-refs : (m : CountingPermissions) → main-inv m → invariants.compare-refs m
+  pub compare-ref-and-counter : (m : CountingPermissions) → main-inv m → invariants.compare-ref-and-counter m
+  pub read-ref-guards : (m : CountingPermissions) → main-inv m → invariants.read-ref-guards m
+  pub counter-guards : (m : CountingPermissions) → main-inv m → invariants.counter-guards m

@@ -2,7 +2,7 @@
 use mathlib.Core.List.{List}
 use mathlib.Core.Option.{Option, none, some}
 use Prim.Native.Nat.{ℕ}
-use Rattle.machine.specs.Single as machine
+use Rattle.machine.specs.Single as general
 use Rattle.machine.specs.Single.{Stepper}
 use Rattle.schedule.specs.Limits as limit
 use Rattle.schedule.specs.declared.steps.CountingStep.{CountingStep}
@@ -29,7 +29,7 @@ abbrev pub stepper : Stepper counting
 stepper = record { Any = Step; own = own; sound = sound; room = limit.entry; bytes = entryBytes; Answer = Answer; answer = answer }
 
 abbrev pub Singled : State → Step → List ℕ → Answer → List ℕ → Type 0
-Singled s x l r l′ = machine.Singled stepper s x l r l′
+Singled s x l r l′ = general.Singled stepper s x l r l′
 
 abbrev pub Applied : State → CountingStep → List ℕ → Answer → List ℕ → Type 0
-Applied s x l r l′ = machine.Applied stepper s x l r l′
+Applied s x l r l′ = general.Applied stepper s x l r l′

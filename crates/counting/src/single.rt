@@ -67,28 +67,32 @@ fn apply(s: State, x: CountingStep, log: &mut [u8]) -> Answer
     ensures { λ r. ⌜ Applied s x (now (log .entry)) r (now (log .exit)) ⌝ }
 {
     match x {
-        CountingStep::WriteableToReadable { t } => settle(moves::writeable_to_readable(s, t), 0),
-        CountingStep::DeleteRef { t } => settle(moves::delete_ref(s, t), 0),
+        CountingStep::WriteableToReadable { t } => with_state(
+            moves::writeable_to_readable(s, t),
+            0,
+        ),
         CountingStep::ReadableToWriteable => {
             let m = moves::readable_to_writeable(s);
             if m.code != 0 {
-                return settle(m, 0);
+                return with_state(m, 0);
             }
             let n = entry::put_entry(log, 0, Entry::Withdrawn { t: s.t });
-            settle(m, n)
+            with_state(m, n)
         }
         CountingStep::NewRef => {
             let m = moves::new_ref(s);
             if m.code != 0 {
-                return settle(m, 0);
+                return with_state(m, 0);
             }
             let n = entry::put_entry(log, 0, Entry::Granted { t: s.t });
-            settle(m, n)
+            with_state(m, n)
         }
+        CountingStep::DeleteRef { t } => with_state(moves::delete_ref(s, t), 0),
     }
 }
 
-fn settle(m: Moved, logged: usize) -> Answer
+// The answer with the moved state, and the entry's length.
+fn with_state(m: Moved, logged: usize) -> Answer
     ensures { λ r. ⌜ r ≡ answer (m .state) logged (m .code) ⌝ }
 {
     let s = m.state;

@@ -13,7 +13,7 @@ use Rattle.counting.specs.Counting.{counting, freshState}
 use Rattle.counting.specs.Refined.{Sound}
 use Rattle.counting.specs.declared.state.State.{State}
 use Rattle.counting.proofs.Writes.{logs-short}
-use Rattle.counting.proofs.Sounds.{sound-means, fresh-sound}
+use Rattle.counting.proofs.Sounds.{fresh-means}
 use Rattle.counting.proofs.Kept.{accepted-sound}
 use Rattle.counting_run.specs.Run.{runner, restOfFile}
 
@@ -28,7 +28,7 @@ carries =
 
 module _ (s : State) (e : s ≡ freshState) where
   pub fresh-good : Sound s
-  fresh-good = rw e (sound-means freshState fresh-sound)
+  fresh-good = rw e fresh-means
 
   -- what a run from it leaves is what the rest of the file comes to
   pub fresh-leaves : (f : List ℕ) (from : ℕ) (log image : List ℕ) (r : Answer) (log′ image′ : List ℕ)

@@ -29,56 +29,59 @@ module _ (f : List ℕ) (from n : ℕ) (q₀ : State) (log₀ : List ℕ) (used 
   abbrev Then : List ℕ → State → ℕ → ℕ → Type 0
   Then log′ q′ at′ w′ = Runs runner carries f from n q₀ log₀ used log′ q′ at′ (k + 1) w′
 
+  -- the run ends at this step, with its code
+  abbrev Refused : ℕ → Type 0
+  Refused c = Out runner carries f from n q₀ log₀ used log q at k w g c
+
   own : (v : CountingStep) (m : Moved) → m ≡ moved q v → Fair counting q v (m .code) (m .state)
   own v m p = moved-fair q v (means-sound q (g .good)) m p
 
   -- a step that its transition refuses
-  pub stops : (v : CountingStep) → x ≡ v → (m : Moved) → m ≡ moved q v → (m .code ≡ 0 → ⊥)
-      → Out runner carries f from n q₀ log₀ used log q at k w g (m .code)
-  stops v e m p = fair-stops runner carries f from n q₀ log₀ used log q at k w g h x r v e (m .code) (m .state) (own v m p)
+  pub refused : (v : CountingStep) → x ≡ v → (m : Moved) → m ≡ moved q v → (m .code ≡ 0 → ⊥) → Refused (m .code)
+  refused v e m p = fair-stops runner carries f from n q₀ log₀ used log q at k w g h x r v e (m .code) (m .state) (own v m p)
 
   -- ---------- the arms
 
-  pub write-turn : (t : ℕ) → x ≡ WriteableToReadable t → (m : Moved) → m ≡ moved q (WriteableToReadable t) → m .code ≡ 0 → Then log (m .state) (at + 6) w
+  pub writeable-to-readable-turn : (t : ℕ) → x ≡ WriteableToReadable t → (m : Moved) → m ≡ moved q (WriteableToReadable t) → m .code ≡ 0 → Then log (m .state) (at + 6) w
   unfolding widthsOf widths
-  write-turn t e m p z =
+  writeable-to-readable-turn t e m p z =
       let v = WriteableToReadable t in
       fair-quiet runner carries f from n q₀ log₀ used log q at k w g h x r v e (m .code) (m .state) (own v m p) z refl
 
-  pub delete-turn : (t : ℕ) → x ≡ DeleteRef t → (m : Moved) → m ≡ moved q (DeleteRef t) → m .code ≡ 0 → Then log (m .state) (at + 6) w
-  unfolding widthsOf widths
-  delete-turn t e m p z =
-      let v = DeleteRef t in
-      fair-quiet runner carries f from n q₀ log₀ used log q at k w g h x r v e (m .code) (m .state) (own v m p) z refl
-
   module _ (m : Moved) (z : m .code ≡ 0) (w′ : ℕ) (log′ : List ℕ) where
-    pub withdraw-turn : x ≡ ReadableToWriteable → m ≡ moved q ReadableToWriteable → Laid log w (entryBytes (Withdrawn (q .t))) w′ log′
+    pub readable-to-writeable-turn : x ≡ ReadableToWriteable → m ≡ moved q ReadableToWriteable → Laid log w (entryBytes (Withdrawn (q .t))) w′ log′
         → Then log′ (m .state) (at + 2) w′
     unfolding widthsOf widths
-    withdraw-turn e p =
+    readable-to-writeable-turn e p =
         let v = ReadableToWriteable in
         fair-says runner carries f from n q₀ log₀ used log q at k w g h x r v e (m .code) (m .state) (own v m p) z (Withdrawn (q .t)) refl w′ log′
 
-    pub new-turn : x ≡ NewRef → m ≡ moved q NewRef → Laid log w (entryBytes (Granted (q .t))) w′ log′ → Then log′ (m .state) (at + 2) w′
+    pub new-ref-turn : x ≡ NewRef → m ≡ moved q NewRef → Laid log w (entryBytes (Granted (q .t))) w′ log′ → Then log′ (m .state) (at + 2) w′
     unfolding widthsOf widths
-    new-turn e p =
+    new-ref-turn e p =
         let v = NewRef in
         fair-says runner carries f from n q₀ log₀ used log q at k w g h x r v e (m .code) (m .state) (own v m p) z (Granted (q .t)) refl w′ log′
 
+  pub delete-ref-turn : (t : ℕ) → x ≡ DeleteRef t → (m : Moved) → m ≡ moved q (DeleteRef t) → m .code ≡ 0 → Then log (m .state) (at + 6) w
+  unfolding widthsOf widths
+  delete-ref-turn t e m p z =
+      let v = DeleteRef t in
+      fair-quiet runner carries f from n q₀ log₀ used log q at k w g h x r v e (m .code) (m .state) (own v m p) z refl
+
   -- ---------- the place after each step is in the file
 
-  pub write-ahead : (t : ℕ) → x ≡ WriteableToReadable t → Fits w64 (at + 6)
+  pub writeable-to-readable-ahead : (t : ℕ) → x ≡ WriteableToReadable t → Fits w64 (at + 6)
   unfolding widthsOf widths
-  write-ahead t = ahead runner carries f from n q₀ log₀ used log q at k w g h x r (WriteableToReadable t)
+  writeable-to-readable-ahead t = ahead runner carries f from n q₀ log₀ used log q at k w g h x r (WriteableToReadable t)
 
-  pub delete-ahead : (t : ℕ) → x ≡ DeleteRef t → Fits w64 (at + 6)
+  pub readable-to-writeable-ahead : x ≡ ReadableToWriteable → Fits w64 (at + 2)
   unfolding widthsOf widths
-  delete-ahead t = ahead runner carries f from n q₀ log₀ used log q at k w g h x r (DeleteRef t)
+  readable-to-writeable-ahead = ahead runner carries f from n q₀ log₀ used log q at k w g h x r ReadableToWriteable
 
-  pub withdraw-ahead : x ≡ ReadableToWriteable → Fits w64 (at + 2)
+  pub new-ref-ahead : x ≡ NewRef → Fits w64 (at + 2)
   unfolding widthsOf widths
-  withdraw-ahead = ahead runner carries f from n q₀ log₀ used log q at k w g h x r ReadableToWriteable
+  new-ref-ahead = ahead runner carries f from n q₀ log₀ used log q at k w g h x r NewRef
 
-  pub new-ahead : x ≡ NewRef → Fits w64 (at + 2)
+  pub delete-ref-ahead : (t : ℕ) → x ≡ DeleteRef t → Fits w64 (at + 6)
   unfolding widthsOf widths
-  new-ahead = ahead runner carries f from n q₀ log₀ used log q at k w g h x r NewRef
+  delete-ref-ahead t = ahead runner carries f from n q₀ log₀ used log q at k w g h x r (DeleteRef t)

@@ -1,5 +1,4 @@
--- The steps by the tests that the code makes of them: a code that is not 0 leaves the state as it was, and behind the last test the state is the one after
--- the step. Assumes nothing.
+-- What each step comes to in the whole state: its code, and the state after it or the same. The single step and the replay loop both cite it. Assumes nothing.
 use mathlib.Core.Path.{_≡_, refl, sym, _∙_}
 use mathlib.Core.Bool.{true}
 use Prim.Native.Nat.{ℕ}

@@ -11,10 +11,6 @@ use Rattle.rows.specs.Walk.{many}
 use Rattle.rows.proofs.Cases.{on, clash}
 use Rattle.rows.proofs.Row.{row-case, many-set, many-sole}
 
--- a test that cannot hold fails
-pub cannot : (b : Bool) → (b ≡ true → ⊥) → b ≡ false
-cannot b n = on b (λ e. absurd (n e)) (λ e. e)
-
 module _ {A : Type 0} (p : A → Bool) where
   -- ---------- the first entry that passes
 

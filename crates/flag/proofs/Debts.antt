@@ -13,13 +13,13 @@ use Rattle.rows.proofs.Row.{row-case, many-set, many-none, many-sole}
 use Rattle.machine.specs.History.{in#}
 use Rattle.flag.specs.Source as source
 use Rattle.flag.specs.Source.{Control}
-use Rattle.flag.specs.Flag.{went, owner, flipped}
+use Rattle.flag.specs.Flag.{went, offerer, flipped}
 use Rattle.flag.specs.Sound.{atSecond, atStore}
 use Rattle.flag.specs.Refined.{number, control}
 use Rattle.flag.specs.Demand.{flipOf, anyFlip, turned}
 use Rattle.flag.proofs.Loop.{numbered, second-five}
 use Rattle.flag.proofs.Offers.{Handshake}
-use Rattle.flag.proofs.Offerer.{owner-five}
+use Rattle.flag.proofs.Offerer.{offerer-there}
 
 -- 1 to 4 owe their flip; 5 owes it until another has carried it out, that is until `pending` is 2; 6 owes nothing
 abbrev pub owes : Control → ℕ → ℕ
@@ -74,15 +74,15 @@ module _ (B F : ℕ → ℕ) (ps : List ℕ) (k : ℕ) (c : Control) (r : k < le
 
 -- the one who offers, and the mover, are logged
 both : (B F : ℕ → ℕ) (ps : List ℕ) (k : ℕ) → k < length ps → getD ps k 0 ≡ 1 → many atSecond ps ≡ 1 → ((q : ℕ) → B q ≡ F q + owes (control (getD ps q 0)) 1)
-    → (q : ℕ) → B q ≡ tick (eqb q (owner ps)) (tick (eqb q k) (F q)) + owes (control (getD (set ps k 0) q 0)) 2
+    → (q : ℕ) → B q ≡ tick (eqb q (offerer ps)) (tick (eqb q k) (F q)) + owes (control (getD (set ps k 0) q 0)) 2
 both B F ps k r e m i q =
-    let o = owner-five ps (omega arith) in
-    let apart : ¬ (k ≡ owner ps) = λ x. omega (arith, o .0, rw x at e) in
-    row-case (λ z. B q ≡ tick (eqb q (owner ps)) (tick (eqb q k) (F q)) + owes (control z) 2) ps k q 0 0 r
-    (λ x. rw (eq-eqb q k x, x, ne-eqb k (owner ps) apart) (omega (arith, rw e at (i k))))
-    (λ n. rw (ne-eqb q k n) (on (eqb q (owner ps))
-    (λ x. rw (x, eqb-true q (owner ps) x, o .0) (omega (arith, rw (o .0) at (i (owner ps)))))
-    (λ x. rw x (omega (arith, i q, others-unconcerned ps (owner ps) 1 2 (o .1) (o .0) m q (eqb-false q (owner ps) x))))))
+    let o = offerer-there ps (omega arith) in
+    let apart : ¬ (k ≡ offerer ps) = λ x. omega (arith, o .0, rw x at e) in
+    row-case (λ z. B q ≡ tick (eqb q (offerer ps)) (tick (eqb q k) (F q)) + owes (control z) 2) ps k q 0 0 r
+    (λ x. rw (eq-eqb q k x, x, ne-eqb k (offerer ps) apart) (omega (arith, rw e at (i k))))
+    (λ n. rw (ne-eqb q k n) (on (eqb q (offerer ps))
+    (λ x. rw (x, eqb-true q (offerer ps) x, o .0) (omega (arith, rw (o .0) at (i (offerer ps)))))
+    (λ x. rw x (omega (arith, i q, others-unconcerned ps (offerer ps) 1 2 (o .1) (o .0) m q (eqb-false q (offerer ps) x))))))
 
 -- ---------- a move: what is owed before it is what it logs and what is owed after it
 
@@ -96,7 +96,7 @@ no-six ps k e m = let z = rw e at (many-none atStore ps 0 refl m k) in clash (cc
 pub debt-move : (B F : ℕ → ℕ) (ps : List ℕ) (k : ℕ) (c : Control) (d : ℕ) (v : Bool) → let w = went (number c) d v in
     k < length ps → getD ps k 0 ≡ number c → (c ≡ source.returned → ⊥) → Handshake d (many atSecond ps) (many atStore ps)
     → ((q : ℕ) → B q ≡ F q + owes (control (getD ps q 0)) d)
-    → (q : ℕ) → B q ≡ in# (flipOf q) (flipped (w .flips) (owner ps) k) (F q) + owes (control (getD (set ps k (w .place)) q 0)) (w .pending)
+    → (q : ℕ) → B q ≡ in# (flipOf q) (flipped (w .flips) (offerer ps) k) (F q) + owes (control (getD (set ps k (w .place)) q 0)) (w .pending)
 debt-move B F ps k source.returned d v r e n h i = absurd (n refl)
 debt-move B F ps k source.try-cancel-two-flips zero v r e n h i = quiet B F ps k source.try-cancel-two-flips r e 0 i 2 0 refl (λ q _. refl)
 debt-move B F ps k source.try-cancel-two-flips (suc zero) v r e n h i = both B F ps k r e (h .0) i

@@ -1,6 +1,6 @@
 -- Demand 3's share: the state after a history is told by counts of the history, so that every history from a fresh flag meets the demand. Assumes
 -- nothing.
-use Prim.Native.Nat.{ℕ, suc, _+_, _≤_}
+use Prim.Native.Nat.{ℕ, suc, _+_, _≤_, zero}
 use mathlib.Core.Path.{_≡_, refl, sym, _∙_, ap}
 use mathlib.Core.Bool.{Bool, true}
 use mathlib.Core.List.{List, [], _∷_, _++_}
@@ -19,9 +19,9 @@ use Rattle.machine.proofs.Pasts.{run-all, run-replay}
 use Rattle.schedule.specs.Limits as limit
 use Rattle.schedule.specs.declared.steps.FlagStep.{FlagStep}
 use Rattle.schedule.specs.declared.steps.FlagStep.the-variants.{Begin, Move, Read}
-use Rattle.flag.specs.Flag.{flag, freshState, place, owner, next}
+use Rattle.flag.specs.Flag.{flag, freshState, place, offerer, next}
 use Rattle.flag.specs.Refined.{control, abs, Sound}
-use Rattle.flag.specs.Demand.{Hist, event, beginsOf, flipOf, begins, flips, allFlips, turned, MayRead, Demanded}
+use Rattle.flag.specs.Demand.{Hist, happened, beginsOf, flipOf, begins, flips, allFlips, turned, MayRead, Demanded, owed, FlipsOwed}
 use Rattle.flag.specs.declared.state.State.{State}
 use Rattle.flag.specs.declared.entry.Entry.{Entry}
 use Rattle.flag.proofs.Sounds.{sound-handshake, fresh-means, fresh-outside, in-row}
@@ -30,7 +30,7 @@ use Rattle.flag.proofs.Debts.{owes, debt-move, shown-move}
 
 -- a begin of k, and what came before it
 abbrev begun : ℕ → List Entry → Hist → Hist
-begun k es before = event (Begin k) es ∷ before
+begun k es before = happened (Begin k) es ∷ before
 
 -- ---------- the state as counts of the history
 
@@ -58,13 +58,13 @@ keep v₀ h s (Move k) i a =
     record {
       right = accepted-sound s (Move k) (i .right) a;
       debt = rw e (debt-move (begins h) (flips h) (s .places) k (abs s .controls k) (s .pending) (s .value) r e n (sound-handshake s (i .right)) (i .debt));
-      shown = rw e (shown-move v₀ (allFlips h) (abs s .controls k) (s .pending) (s .value) (owner (s .places)) k (i .shown));
+      shown = rw e (shown-move v₀ (allFlips h) (abs s .controls k) (s .pending) (s .value) (offerer (s .places)) k (i .shown));
     }
 keep v₀ h s (Read k) i a = record { right = i .right; debt = i .debt; shown = i .shown }
 
-module _ (n : ℕ) (v₀ : Bool) (some : 1 ≤ n) (few : n ≤ limit.threads) where
+module _ (n : ℕ) (v₀ : Bool) (any : 1 ≤ n) (few : n ≤ limit.threads) where
   fresh : Inv v₀ [] (freshState n v₀)
-  fresh = record { right = fresh-means n v₀ some few; debt = λ k. rw (fresh-outside n v₀ k); shown = refl }
+  fresh = record { right = fresh-means n v₀ any few; debt = λ k. rw (fresh-outside n v₀ k); shown = refl }
 
   pub run-inv : {h : Hist} {s : State} → Run flag (freshState n v₀) h s → Inv v₀ h s
   run-inv r = always flag (freshState n v₀) (Inv v₀) fresh (keep v₀) r
@@ -108,21 +108,37 @@ module _ (n : ℕ) (v₀ : Bool) (some : 1 ≤ n) (few : n ≤ limit.threads) wh
   nothing-later k later h s r g u = omega (arith, u, g, did-append (beginsOf k) later h, logged-append (flipOf k) later h, run-inv r .debt k)
 
 pub demanded : Demanded
-demanded n v₀ some few h s r =
+demanded n v₀ any few h s r =
     record {
-      none-unbegun = λ k. omega (arith, run-inv n v₀ some few r .debt k);
+      none-unbegun = λ k. omega (arith, run-inv n v₀ any few r .debt k);
       at-most-once = λ k rest during before es q f.
           let t = earlier flag (freshState n v₀) rest (rw q at r) in
-          once n v₀ some few k during before es (t .0) (t .1) f;
+          once n v₀ any few k during before es (t .0) (t .1) f;
       finished-once = λ k rest later during before es q f g m.
           let t = earlier flag (freshState n v₀) rest (rw q at r) in
           let u = earlier flag (freshState n v₀) later (t .1) in
-          let over = may-settled n v₀ some few (during ++ begun k es before) (u .0) k (u .1) m in (
-            done-once n v₀ some few k during before es (u .0) (u .1) f m,
-            nothing-later n v₀ some few k later (during ++ begun k es before) (t .0) (t .1) g over,
+          let over = may-settled n v₀ any few (during ++ begun k es before) (u .0) k (u .1) m in (
+            done-once n v₀ any few k during before es (u .0) (u .1) f m,
+            nothing-later n v₀ any few k later (during ++ begun k es before) (t .0) (t .1) g over,
           );
       reads = λ k later before es q.
           let t = earlier flag (freshState n v₀) later (rw q at r) in
           let l = last flag (freshState n v₀) (Read k) refl (t .1) in
-          sym (l .4) ∙ rw (run-inv n v₀ some few (l .1) .shown);
+          sym (l .4) ∙ rw (run-inv n v₀ any few (l .1) .shown);
     }
+
+-- what the place owes is what the control there owes, of the seven places that there are
+owed-owes : (p d : ℕ) → p ≤ 6 → owed p d ≡ owes (control p) d
+owed-owes zero d h = refl
+owed-owes (suc zero) d h = refl
+owed-owes (suc (suc zero)) d h = refl
+owed-owes (suc (suc (suc zero))) d h = refl
+owed-owes (suc (suc (suc (suc zero)))) d h = refl
+owed-owes (suc (suc (suc (suc (suc zero))))) d h = refl
+owed-owes (suc (suc (suc (suc (suc (suc zero)))))) d h = refl
+owed-owes (suc (suc (suc (suc (suc (suc (suc p))))))) d h = absurd (omega (arith, h))
+
+pub flips-owed : FlipsOwed
+flips-owed n v₀ any few h s r =
+    let i = run-inv n v₀ any few r in
+    (λ k. i .debt k ∙ rw (← owed-owes (place s k) (s .pending) (i .right .places k)), i .shown)

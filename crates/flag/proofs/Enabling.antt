@@ -1,4 +1,4 @@
--- Of a sound state, a step is accepted exactly when the source's code lets its thread take it. Assumes nothing.
+-- Of a sound state, a step is accepted exactly when it is enabled: the source's transition leads somewhere, below the limit. Assumes nothing.
 use Prim.Native.Nat.{ℕ}
 use mathlib.Core.Path.{_≡_}
 use mathlib.Core.Bool.{true}

@@ -70,7 +70,7 @@ put-sound s k p d v i b h e =
     record {
       inv = handshake-protocol d (set (s .places) k p) e;
       whole = rw length-set (i .whole);
-      some = i .some;
+      any = i .any;
       few = i .few;
       places = λ j. row-case (λ q. q ≤ 6) (s .places) k j p 0 (in-row s k i b) (λ _. h) (λ _. i .places j);
       unused = λ j u. rw (getD-set-other (s .places) k j p 0 (λ x. omega arith)) (i .unused j u);

@@ -16,6 +16,7 @@ pub mod Enabling
 pub mod Posts
 pub mod Ends
 pub mod Wanders
+pub mod Inductive
 pub mod Refines
 -- demand 3, and the tables
 pub mod Debts

@@ -30,18 +30,18 @@ entry-small threads k p h = on (ltb k threads)
     (λ b. let z = eqb-true p 0 (rw b at h) in omega arith)
 
 module _ (s : State) (safe : sound s ≡ true) where
-  some-few : (not (eqb (s .threads) 0) ≡ true) × ((not (ltb limit.threads (s .threads)) && placesSound s) ≡ true)
-  some-few = both-true (not (eqb (s .threads) 0)) (not (ltb limit.threads (s .threads)) && placesSound s) safe
+  any-few : (not (eqb (s .threads) 0) ≡ true) × ((not (ltb limit.threads (s .threads)) && placesSound s) ≡ true)
+  any-few = both-true (not (eqb (s .threads) 0)) (not (ltb limit.threads (s .threads)) && placesSound s) safe
 
   few-placed : (not (ltb limit.threads (s .threads)) ≡ true) × (placesSound s ≡ true)
-  few-placed = both-true (not (ltb limit.threads (s .threads))) (placesSound s) (some-few .1)
+  few-placed = both-true (not (ltb limit.threads (s .threads))) (placesSound s) (any-few .1)
 
   placed-agreed : (every (placeSound (s .threads)) 0 (s .places) ≡ true) × (handshake (s .pending) (many atSecond (s .places)) (many atStore (s .places)) ≡ true)
   placed-agreed =
       both-true (every (placeSound (s .threads)) 0 (s .places)) (handshake (s .pending) (many atSecond (s .places)) (many atStore (s .places))) (few-placed .1)
 
-  pub some-threads : 1 ≤ s .threads
-  some-threads = let n = eqb-false (s .threads) 0 (not-true (eqb (s .threads) 0) (some-few .0)) in omega arith
+  pub any-threads : 1 ≤ s .threads
+  any-threads = let n = eqb-false (s .threads) 0 (not-true (eqb (s .threads) 0) (any-few .0)) in omega arith
 
   pub few-threads : s .threads ≤ limit.threads
   few-threads = ltb-false limit.threads (s .threads) (not-true (ltb limit.threads (s .threads)) (few-placed .0))

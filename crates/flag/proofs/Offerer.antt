@@ -10,38 +10,38 @@ use Rattle.rows.specs.Walk.{many}
 use Rattle.rows.proofs.Cases.{on, clash}
 use Rattle.flag.specs.Source as source
 use Rattle.flag.specs.Source.{Control, Memory, resolves}
-use Rattle.flag.specs.Flag.{place, owner}
+use Rattle.flag.specs.Flag.{place, offerer}
 use Rattle.flag.specs.Sound.{atSecond}
 use Rattle.flag.specs.Refined.{abs, Sound}
 use Rattle.flag.specs.declared.state.State.{State}
 use Rattle.flag.proofs.Counts.{first-place, first-passes}
 use Rattle.flag.proofs.Sounds.{sound-handshake}
 
-owner-first : (ps : List ℕ) → owner ps ≡ first-place atSecond ps
-owner-first [] = refl
-owner-first (p ∷ ps) = on (eqb p 5) (λ b. rw b) (λ b. rw b (ap suc (owner-first ps)))
+offerer-first : (ps : List ℕ) → offerer ps ≡ first-place atSecond ps
+offerer-first [] = refl
+offerer-first (p ∷ ps) = on (eqb p 5) (λ b. rw b) (λ b. rw b (ap suc (offerer-first ps)))
 
 -- where a thread stands at 5, the first of them does
-pub owner-five : (ps : List ℕ) → 0 < many atSecond ps → (getD ps (owner ps) 0 ≡ 5) × (owner ps < length ps)
-owner-five ps h =
+pub offerer-there : (ps : List ℕ) → 0 < many atSecond ps → (getD ps (offerer ps) 0 ≡ 5) × (offerer ps < length ps)
+offerer-there ps h =
     let f = first-passes atSecond ps 0 h in
-    rw (owner-first ps) (eqb-true (getD ps (first-place atSecond ps) 0) 5 (f .0), f .1)
+    rw (offerer-first ps) (eqb-true (getD ps (first-place atSecond ps) 0) 5 (f .0), f .1)
 
 module _ (s : State) (i : Sound s) (e : s .pending ≡ 1) where
   one-five : many atSecond (s .places) ≡ 1
   one-five = let h = rw e at (sound-handshake s i) in h .0
 
-  offerer-five : place s (owner (s .places)) ≡ 5
-  offerer-five = owner-five (s .places) (omega (arith, one-five)) .0
+  offerer-five : place s (offerer (s .places)) ≡ 5
+  offerer-five = offerer-there (s .places) (omega (arith, one-five)) .0
 
-  pub offerer-second : abs s .controls (owner (s .places)) ≡ source.try-handshake-second
+  pub offerer-second : abs s .controls (offerer (s .places)) ≡ source.try-handshake-second
   offerer-second = rw offerer-five
 
   -- it is a thread of the machine: what is none has place 0
-  pub offerer-thread : owner (s .places) < s .threads
-  offerer-thread = on (ltb (owner (s .places)) (s .threads))
-      (λ b. ltb-true (owner (s .places)) (s .threads) b)
-      (λ b. absurd (omega (arith, offerer-five, i .unused (owner (s .places)) (ltb-false (owner (s .places)) (s .threads) b))))
+  pub offerer-thread : offerer (s .places) < s .threads
+  offerer-thread = on (ltb (offerer (s .places)) (s .threads))
+      (λ b. ltb-true (offerer (s .places)) (s .threads) b)
+      (λ b. absurd (omega (arith, offerer-five, i .unused (offerer (s .places)) (ltb-false (offerer (s .places)) (s .threads) b))))
 
 -- two flips are resolved only where one is offered
 pub both-offered : (c : Control) (m : Memory) → resolves c m ≡ source.both-resolved → m .pending ≡ 1

@@ -9,7 +9,7 @@ use lib.Dec.{eqb}
 use lib.ListN.{getD}
 use borrow.Author.Tests.{eqb-true, eq-eqb, ne-eqb}
 use Rattle.rows.specs.Walk.{many}
-use Rattle.rows.proofs.Cases.{clash, both-true, true-both}
+use Rattle.rows.proofs.Cases.{cannot, clash, both-true, true-both}
 use Rattle.rows.proofs.Row.{many-none}
 use Rattle.flag.specs.Source as source
 use Rattle.flag.specs.Source.{Control, Flag}
@@ -17,7 +17,7 @@ use Rattle.flag.specs.Invariants.{Protocol, Waits, Empty, Offering, Acce
 use Rattle.flag.specs.Sound.{atSecond, atStore, handshake}
 use Rattle.flag.specs.Refined.{control}
 use Rattle.flag.proofs.Loop.{waiting, second-five, waits-waiting, waiting-waits, five-second, six-store}
-use Rattle.flag.proofs.Counts.{cannot, first-place, first-passes, none-many, sole-many, many-one, many-either}
+use Rattle.flag.proofs.Counts.{first-place, first-passes, none-many, sole-many, many-one, many-either}
 
 -- `pending` d with `fives` threads at 5 and `sixes` at 6
 abbrev pub Handshake : ℕ → ℕ → ℕ → Type 0

@@ -1,5 +1,5 @@
--- An accepted step is the source's transition, to what the state after it stands for and to no other state; it logs what the source hands out, and what
--- the source takes for granted holds. Assumes nothing.
+-- What an accepted step does in the source: where it leads, to no other state, what it hands out, and that it is safe: who stores has its offer accepted.
+-- Assumes nothing.
 use Prim.Native.Nat.{ℕ, _<_}
 use mathlib.Core.Path.{_≡_, refl, sym, ap, _∙_}
 use mathlib.Core.Bool.{Bool, cond}
@@ -11,7 +11,7 @@ use Rattle.schedule.specs.declared.steps.FlagStep.{FlagStep}
 use Rattle.schedule.specs.declared.steps.FlagStep.the-variants.{Begin, Move, Read}
 use Rattle.flag.specs.Source as source
 use Rattle.flag.specs.Source.{Control, Memory, Resolves, Flag, Transition, Moves, Safe, with-thread, control-after, memory-after, resolves}
-use Rattle.flag.specs.Flag.{flag, place, went, wentBy, owner, withPlace, next, logs, flipped}
+use Rattle.flag.specs.Flag.{flag, place, went, wentBy, offerer, withPlace, next, logs, flipped}
 use Rattle.flag.specs.Refined.{number, control, flipsOf, abs, label, Sound, Resolved, HandsOut}
 use Rattle.flag.specs.declared.state.State.{State}
 use Rattle.flag.specs.declared.moves.Went.{Went}
@@ -85,12 +85,12 @@ accepted-post s x to i a v = moves-one (label x) (abs s) to (abs (next s x)) v (
 -- ---------- the log is what the source resolves or reads
 
 resolved : (s : State) (k : ℕ) → Sound s → (r : Resolves) → resolves (abs s .controls k) (abs s .memory) ≡ r
-    → Resolved (abs s) k r (flipped (flipsOf r) (owner (s .places)) k)
+    → Resolved (abs s) k r (flipped (flipsOf r) (offerer (s .places)) k)
 resolved s k i source.none-resolved e = refl
 resolved s k i source.own-resolved e = refl
 resolved s k i source.both-resolved e =
     let one = both-offered (abs s .controls k) (abs s .memory) e in
-    (owner (s .places), offerer-thread s i one, offerer-second s i one, refl)
+    (offerer (s .places), offerer-thread s i one, offerer-second s i one, refl)
 
 pub accepted-logs : (s : State) (x : FlagStep) → Sound s → Accepted flag s x → HandsOut (abs s) (label x) (logs s x)
 accepted-logs s (Begin k) i a = refl

@@ -1,12 +1,18 @@
--- The flag and the source: of a sound state, a step is accepted exactly when the source's transition is enabled; then it leads where the source leads,
--- logs what the source hands out, and the state after is sound. So every state that a schedule reaches is. Assumes nothing.
+-- The machine and its source: all that specs/Refined.antt asks for; and every state that a history leads to from a fresh machine is sound. Assumes nothing.
 use Prim.Native.Nat.{ℕ, _≤_}
 use mathlib.Core.Bool.{Bool}
-use Rattle.machine.specs.History.{History, Run}
+use Rattle.machine.specs.History.{Run}
 use Rattle.machine.proofs.Runs.{always}
 use Rattle.schedule.specs.Limits as limit
+use Rattle.flag.specs.Source as source
+use Rattle.flag.specs.Source.{Transition}
+use Rattle.schedule.specs.declared.steps.FlagStep.{FlagStep}
+use Rattle.schedule.specs.declared.steps.FlagStep.the-variants.{Begin, Move, Read}
+use Rattle.flag.proofs.Inductive as source-own
+use mathlib.Core.Path.{_≡_, refl}
 use Rattle.flag.specs.Flag.{flag, freshState}
-use Rattle.flag.specs.Refined.{Sound, Refines}
+use Rattle.flag.specs.Refined.{Sound, label, Refines}
+use Rattle.flag.specs.Demand.{Hist}
 use Rattle.flag.specs.declared.state.State.{State}
 use Rattle.flag.proofs.Loop.{table, numbered}
 use Rattle.flag.proofs.Sounds.{sound-means, means-sound, fresh-new, fresh-means, fresh-sound}
@@ -15,6 +21,12 @@ use Rattle.flag.proofs.Enabling.{accepted-enabled, enabled-accepted}
 use Rattle.flag.proofs.Posts.{accepted-moves, accepted-post, accepted-logs, accepted-safe}
 use Rattle.flag.proofs.Ends.{ends}
 use Rattle.flag.proofs.Wanders.{unbounded}
+
+-- every transition of the source is some step's
+onto : (y : Transition) → (x : FlagStep) × (label x ≡ y)
+onto (source.begin k) = (Begin k, refl)
+onto (source.move k) = (Move k, refl)
+onto (source.read k) = (Read k, refl)
 
 pub refines : Refines
 refines =
@@ -25,6 +37,7 @@ refines =
       means-sound = means-sound;
       upholds =
           record {
+            onto = onto;
             accepted-enabled = accepted-enabled;
             enabled-accepted = enabled-accepted;
             accepted-moves = accepted-moves;
@@ -33,11 +46,13 @@ refines =
             accepted-safe = accepted-safe;
             accepted-good = accepted-sound;
           };
+      initial = source-own.new-inductive;
+      inductive = record { kept = source-own.inductive; safe = source-own.safe };
       table = table;
       numbered = numbered;
       ends = ends;
       unbounded = unbounded;
     }
 
-pub every-prefix-sound : (n : ℕ) (v : Bool) → 1 ≤ n → n ≤ limit.threads → {h : History flag} {s : State} → Run flag (freshState n v) h s → Sound s
-every-prefix-sound n v some few r = always flag (freshState n v) (λ h s. Sound s) (fresh-means n v some few) (λ h s x i a. accepted-sound s x i a) r
+pub every-prefix-sound : (n : ℕ) (v : Bool) → 1 ≤ n → n ≤ limit.threads → {h : Hist} {s : State} → Run flag (freshState n v) h s → Sound s
+every-prefix-sound n v any few r = always flag (freshState n v) (λ h s. Sound s) (fresh-means n v any few) (λ h s x i a. accepted-sound s x i a) r

@@ -9,26 +9,26 @@ use Rattle.machine.specs.History.{Event}
 use Rattle.schedule.specs.declared.steps.FlagStep.{FlagStep}
 use Rattle.schedule.specs.declared.steps.FlagStep.the-variants.{Begin, Move, Read}
 use Rattle.flag.specs.Flag.{freshState}
-use Rattle.flag.specs.Demand.{Hist, event, Demand}
+use Rattle.flag.specs.Demand.{Hist, happened, Demand}
 use Rattle.flag.specs.declared.state.State.{State}
 use Rattle.flag.specs.declared.entry.Entry.{Entry}
 use Rattle.flag.specs.declared.entry.Entry.the-variants.{Flip, Saw}
 
 abbrev begins-one : ℕ → Event FlagStep Entry
-begins-one k = event (Begin k) []
+begins-one k = happened (Begin k) []
 
 -- a move that logs nothing, and one that logs
 abbrev goes-on : ℕ → Event FlagStep Entry
-goes-on k = event (Move k) []
+goes-on k = happened (Move k) []
 
 abbrev logs-flip : ℕ → ℕ → Event FlagStep Entry
-logs-flip k j = event (Move k) (Flip j ∷ [])
+logs-flip k j = happened (Move k) (Flip j ∷ [])
 
 abbrev logs-twice : ℕ → Event FlagStep Entry
-logs-twice k = event (Move k) (Flip k ∷ Flip k ∷ [])
+logs-twice k = happened (Move k) (Flip k ∷ Flip k ∷ [])
 
 abbrev shows : ℕ → Bool → Event FlagStep Entry
-shows k v = event (Read k) (Saw k v ∷ [])
+shows k v = happened (Read k) (Saw k v ∷ [])
 
 -- ---------- helping: thread 1 flips, then takes the offer of thread 0, who takes note and ends (P11)
 
@@ -85,21 +85,21 @@ module _ (s₀ : State) (v₀ : Bool) where
   twice-and-never d = omega (arith, d .at-most-once 0 (begins-one 0 ∷ []) (logs-twice 0 ∷ []) [] [] refl refl .1)
 
   -- a flip is logged by its own begin
-  pub by-its-begin : Demand s₀ v₀ (event (Begin 0) (Flip 0 ∷ []) ∷ []) → ⊥
+  pub by-its-begin : Demand s₀ v₀ (happened (Begin 0) (Flip 0 ∷ []) ∷ []) → ⊥
   by-its-begin d = let e = d .at-most-once 0 [] [] [] (Flip 0 ∷ []) refl refl .0 in clash (cc)
 
   -- a read logs nothing, or for another thread
-  pub shows-nothing : Demand s₀ v₀ (event (Read 0) [] ∷ []) → ⊥
+  pub shows-nothing : Demand s₀ v₀ (happened (Read 0) [] ∷ []) → ⊥
   shows-nothing d = let e = d .reads 0 [] [] [] refl in clash (cc)
 
-  pub shows-for-another : Demand s₀ v₀ (event (Read 0) (Saw 1 v₀ ∷ []) ∷ []) → ⊥
+  pub shows-for-another : Demand s₀ v₀ (happened (Read 0) (Saw 1 v₀ ∷ []) ∷ []) → ⊥
   shows-for-another d = let e = d .reads 0 [] [] (Saw 1 v₀ ∷ []) refl in clash (cc)
 
 -- a read shows the value unturned after a flip, and turned after two
 pub shows-unturned : (s₀ : State) → Demand s₀ false (shows 0 false ∷ logs-flip 1 1 ∷ begins-one 1 ∷ []) → ⊥
 shows-unturned s₀ d = let e = d .reads 0 [] (logs-flip 1 1 ∷ begins-one 1 ∷ []) (Saw 0 false ∷ []) refl in clash (cc)
 
-pub shows-turned : (s₀ : State) → Demand s₀ false (shows 1 true ∷ event (Move 1) (Flip 0 ∷ Flip 1 ∷ []) ∷ begins-one 1 ∷ begins-one 0 ∷ []) → ⊥
+pub shows-turned : (s₀ : State) → Demand s₀ false (shows 1 true ∷ happened (Move 1) (Flip 0 ∷ Flip 1 ∷ []) ∷ begins-one 1 ∷ begins-one 0 ∷ []) → ⊥
 shows-turned s₀ d =
-    let e = d .reads 1 [] (event (Move 1) (Flip 0 ∷ Flip 1 ∷ []) ∷ begins-one 1 ∷ begins-one 0 ∷ []) (Saw 1 true ∷ []) refl in
+    let e = d .reads 1 [] (happened (Move 1) (Flip 0 ∷ Flip 1 ∷ []) ∷ begins-one 1 ∷ begins-one 0 ∷ []) (Saw 1 true ∷ []) refl in
     clash (cc)

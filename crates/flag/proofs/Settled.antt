@@ -1,4 +1,4 @@
--- Each public function's promise settles its answer: two answers that meet it are equal. Assumes nothing.
+-- Each contract settles its answer: two answers that meet a function's promise are equal, and so are the bytes that they leave. Assumes nothing.
 use mathlib.Core.Path.{_≡_}
 use mathlib.Core.Bool.{Bool}
 use mathlib.Core.List.{List}
@@ -8,7 +8,7 @@ use Rattle.rows.specs.Walk.{pieces}
 use Rattle.rows.proofs.Settled.{settled, laid-settled}
 use Rattle.machine.specs.Check.{first}
 use Rattle.schedule.specs.declared.steps.Step.{Step}
-use Rattle.flag.specs.Flag.{freshOf, insideTests, idleTests, went, owner, flipped}
+use Rattle.flag.specs.Flag.{freshOf, insideTests, idleTests, went, offerer, flipped}
 use Rattle.flag.specs.Moved.{mayMove}
 use Rattle.flag.specs.Sound.{sound}
 use Rattle.flag.specs.Image.{entryBytes, imageBytes}
@@ -25,11 +25,11 @@ use Rattle.flag.specs.declared.single.Answer.{Answer}
 pub fresh-settled : (threads : ℕ) (value : Bool) {r q : Made} → r ≡ freshOf threads value → q ≡ freshOf threads value → r ≡ q
 fresh-settled threads value = settled
 
-pub image-settled : (s : State) {l : List ℕ} {r q : ℕ} {l′ m : List ℕ} → Laid l 0 (imageBytes s) r l′ → Laid l 0 (imageBytes s) q m → (r ≡ q) × (l′ ≡ m)
-image-settled s = laid-settled
-
 pub is-sound-settled : (s : State) {r q : Bool} → r ≡ sound s → q ≡ sound s → r ≡ q
 is-sound-settled s = settled
+
+pub image-settled : (s : State) {l : List ℕ} {r q : ℕ} {l′ m : List ℕ} → Laid l 0 (imageBytes s) r l′ → Laid l 0 (imageBytes s) q m → (r ≡ q) × (l′ ≡ m)
+image-settled s = laid-settled
 
 -- ---------- moves
 
@@ -42,11 +42,11 @@ may-begin-settled place = settled
 pub may-move-settled : (place : ℕ) {r q : ℕ} → r ≡ mayMove place → q ≡ mayMove place → r ≡ q
 may-move-settled place = settled
 
-pub exchange-settled : (place pending : ℕ) (value : Bool) {r q : Went} → r ≡ went place pending value → q ≡ went place pending value → r ≡ q
-exchange-settled place pending value = settled
+pub go-on-settled : (place pending : ℕ) (value : Bool) {r q : Went} → r ≡ went place pending value → q ≡ went place pending value → r ≡ q
+go-on-settled place pending value = settled
 
-pub owner-settled : (places : List ℕ) {r q : ℕ} → r ≡ owner places → q ≡ owner places → r ≡ q
-owner-settled places = settled
+pub offerer-settled : (places : List ℕ) {r q : ℕ} → r ≡ offerer places → q ≡ offerer places → r ≡ q
+offerer-settled places = settled
 
 -- ---------- entry
 
@@ -55,7 +55,7 @@ pub put-entry-settled : (e : Entry) {l : List ℕ} {at r q : ℕ} {l′ m : List
 put-entry-settled e = laid-settled
 
 pub put-flips-settled : (flips : Flips) (places : List ℕ) (k : ℕ) {l : List ℕ} {at r q : ℕ} {l′ m : List ℕ}
-    → Laid l at (pieces entryBytes (flipped flips (owner places) k)) r l′ → Laid l at (pieces entryBytes (flipped flips (owner places) k)) q m
+    → Laid l at (pieces entryBytes (flipped flips (offerer places) k)) r l′ → Laid l at (pieces entryBytes (flipped flips (offerer places) k)) q m
     → (r ≡ q) × (l′ ≡ m)
 put-flips-settled flips places k = laid-settled
 

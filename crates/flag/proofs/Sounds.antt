@@ -1,13 +1,14 @@
 -- The test of a state says what soundness means: the source's protocol, the limits, unused entries zero. Assumes nothing.
-use Prim.Native.Nat.{ℕ, zero, suc, _≤_, _<_}
+use Prim.Native.Nat.{ℕ, _≤_, _<_}
 use mathlib.Core.Path.{_≡_, refl}
 use mathlib.Core.Bool.{Bool, true, false}
 use native.Mathlib.Omega.{arith}
 use lib.Dec.{eqb, ltb}
-use lib.ListN.{length, getD, replicate, length-replicate}
+use lib.ListN.{length, length-replicate}
 use borrow.Author.Tests.{eqb-true, eq-eqb, ne-eqb, ltb-false, le-ltb, le-leb}
 use Rattle.rows.specs.Walk.{many}
 use Rattle.rows.proofs.Cases.{on, clash, true-both}
+use Rattle.rows.proofs.Rows.{getD-replicate}
 use Rattle.rows.proofs.Walks.{every-all}
 use Rattle.schedule.specs.Limits as limit
 use Rattle.flag.specs.Source as source
@@ -16,7 +17,7 @@ use Rattle.flag.specs.Flag.{place, freshState}
 use Rattle.flag.specs.Sound.{sound, placeSound, atSecond, atStore}
 use Rattle.flag.specs.Refined.{abs, Sound}
 use Rattle.flag.specs.declared.state.State.{State}
-use Rattle.flag.proofs.Moved.{some-threads, few-threads, pending-agrees, entry-sound, place-small}
+use Rattle.flag.proofs.Moved.{any-threads, few-threads, pending-agrees, entry-sound, place-small}
 use Rattle.flag.proofs.Loop.{waits-waiting}
 use Rattle.flag.proofs.Offers.{Handshake, test-handshake, handshake-test, handshake-protocol, protocol-handshake}
 
@@ -37,7 +38,7 @@ sound-means s whole h =
     record {
       inv = handshake-protocol (s .pending) (s .places) (test-handshake (s .pending) (many atSecond (s .places)) (many atStore (s .places)) (pending-agrees s h));
       whole = whole;
-      some = some-threads s h;
+      any = any-threads s h;
       few = few-threads s h;
       places = place-small s h;
       unused = λ k u. entry-unused (s .threads) k (place s k) u (entry-sound s h k);
@@ -50,21 +51,16 @@ sound-handshake s i = protocol-handshake (s .pending) (s .places) (i .inv)
 
 pub means-sound : (s : State) → Sound s → sound s ≡ true
 means-sound s i =
-    let some : eqb (s .threads) 0 ≡ false = ne-eqb (s .threads) 0 (λ e. omega (arith, i .some)) in
+    let any : eqb (s .threads) 0 ≡ false = ne-eqb (s .threads) 0 (λ e. omega (arith, i .any)) in
     let few : ltb limit.threads (s .threads) ≡ false = le-ltb limit.threads (s .threads) (i .few) in
     let row = every-all (placeSound (s .threads)) 0 (s .places) (λ k b. entry-test (s .threads) k (place s k) (i .places k) (i .unused k)) in
     let agree = handshake-test (s .pending) (many atSecond (s .places)) (many atStore (s .places)) (sound-handshake s i) in
-    rw (some, few) (true-both row agree)
+    rw (any, few) (true-both row agree)
 
 -- ---------- a fresh flag
 
-zeros : (n k : ℕ) → _≡_ {A = ℕ} (getD (replicate n 0) k 0) 0
-zeros zero k = refl
-zeros (suc n) zero = refl
-zeros (suc n) (suc k) = zeros n k
-
 fresh-place : (n : ℕ) (v : Bool) (k : ℕ) → place (freshState n v) k ≡ 0
-fresh-place n v k = zeros limit.threads k
+fresh-place n v k = getD-replicate limit.threads k 0
 
 pub fresh-outside : (n : ℕ) (v : Bool) (k : ℕ) → abs (freshState n v) .controls k ≡ source.returned
 fresh-outside n v k = rw (fresh-place n v k)
@@ -73,18 +69,18 @@ pub fresh-new : (n : ℕ) (v : Bool) → abs (freshState n v) ≡ source.new n v
 fresh-new n v = λ t. record { memory = record { value = v; pending = 0 }; threads = n; controls = λ k. fresh-outside n v k t }
 
 pub fresh-means : (n : ℕ) (v : Bool) → 1 ≤ n → n ≤ limit.threads → Sound (freshState n v)
-fresh-means n v some few =
+fresh-means n v any few =
     record {
       inv = Empty refl (λ k w. let t = waits-waiting (place (freshState n v) k) w in clash (cc (fresh-place n v k)));
       whole = length-replicate {A = ℕ} limit.threads 0;
-      some = some;
+      any = any;
       few = few;
       places = λ k. omega (arith, fresh-place n v k);
       unused = λ k u. fresh-place n v k;
     }
 
 pub fresh-sound : (n : ℕ) (v : Bool) → 1 ≤ n → n ≤ limit.threads → sound (freshState n v) ≡ true
-fresh-sound n v some few = means-sound (freshState n v) (fresh-means n v some few)
+fresh-sound n v any few = means-sound (freshState n v) (fresh-means n v any few)
 
 -- ---------- what the proofs take from a sound state
 

@@ -13,9 +13,8 @@ use Rattle.machine.proofs.Pasts.{after-append, accepted-append}
 use Rattle.schedule.specs.declared.steps.FlagStep.{FlagStep}
 use Rattle.schedule.specs.declared.steps.FlagStep.the-variants.{Begin, Move, Read}
 use Rattle.flag.specs.Flag.{flag, freshState, place, next}
-use Rattle.flag.specs.Refined.{Sound, moves-of, Wanders}
+use Rattle.flag.specs.Refined.{movesOf, Wanders}
 use Rattle.flag.specs.declared.state.State.{State}
-use Rattle.flag.proofs.Sounds.{sound-means}
 
 -- ---------- thread k is in a flip all along
 
@@ -41,7 +40,7 @@ busy-append k s (x ∷ xs) ys t u =
     let b = both-true (busy k s) (always-busy k (next s x) xs) t in
     true-both (b .0) (busy-append k (next s x) xs ys (b .1) u)
 
-moves-append : (k : ℕ) (xs ys : List FlagStep) → moves-of k (xs ++ ys) ≡ moves-of k xs + moves-of k ys
+moves-append : (k : ℕ) (xs ys : List FlagStep) → movesOf k (xs ++ ys) ≡ movesOf k xs + movesOf k ys
 moves-append k [] ys = omega arith
 moves-append k (Begin j ∷ xs) ys = moves-append k xs ys
 moves-append k (Move j ∷ xs) ys = on (eqb j k)
@@ -57,7 +56,7 @@ times (suc n) xs = xs ++ times n xs
 
 -- steps that lead back to where they start, with k in its flip all along and at least one move of its own
 module _ (s : State) (k : ℕ) (xs : List FlagStep) (a : AllAccepted flag s xs) (r : after flag s xs ≡ s)
-    (b : always-busy k s xs ≡ true) (h : busy k s ≡ true) (m : 1 ≤ moves-of k xs) where
+    (b : always-busy k s xs ≡ true) (h : busy k s ≡ true) (m : 1 ≤ movesOf k xs) where
   all-times : (n : ℕ) → AllAccepted flag s (times n xs)
   all-times zero = tt
   all-times (suc n) = accepted-append flag s xs (times n xs) a (rw r (all-times n))
@@ -70,7 +69,7 @@ module _ (s : State) (k : ℕ) (xs : List FlagStep) (a : AllAccepted flag s xs) 
   busy-times zero = h
   busy-times (suc n) = busy-append k s xs (times n xs) b (rw r (busy-times n))
 
-  many-times : (n : ℕ) → n ≤ moves-of k (times n xs)
+  many-times : (n : ℕ) → n ≤ movesOf k (times n xs)
   many-times zero = omega arith
   many-times (suc n) = omega (arith, many-times n, moves-append k xs (times n xs))
 
@@ -101,5 +100,5 @@ cycle-accepted : AllAccepted flag begun cycle
 unfolding replay
 cycle-accepted = zero-all flag begun cycle refl
 
-pub unbounded : (s : State) × (Sound s × ((n : ℕ) → Wanders s 0 n))
-unbounded = (begun, (sound-means begun refl refl, wanders begun 0 cycle cycle-accepted refl refl refl (omega arith)))
+pub unbounded : (n : ℕ) → Wanders begun 0 n
+unbounded = wanders begun 0 cycle cycle-accepted refl refl refl (omega arith)

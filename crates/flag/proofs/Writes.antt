@@ -4,23 +4,23 @@ use mathlib.Core.Bool.{Bool}
 use mathlib.Core.List.{List, [], _∷_}
 use Prim.Native.Nat.{ℕ, _+_, _-_, _≤_, _<_}
 use native.Mathlib.Omega.{arith}
-use borrow.Author.Tests.{leb-true, leb-false, ltb-true}
+use borrow.Author.Tests.{leb-true, leb-false}
 use mir.Syntax.{w64}
 use mir.Val.{Fits, boolByte}
-use lib.Dec.{leb, ltb}
+use lib.Dec.{leb}
 use lib.ListN.{length, set, take, length-take}
 use Rattle.rows.specs.Stores.{Laid}
 use Rattle.rows.specs.Walk.{pieces}
 use Rattle.rows.proofs.Cases.{on}
 use Rattle.rows.proofs.Rows.{first-long}
+use Rattle.rows.proofs.Walks.{at-most}
 use Rattle.rows.proofs.Stores.{whole-laid, none-laid, laid-then}
 use Rattle.schedule.specs.Limits as limit
 use Rattle.schedule.specs.declared.steps.FlagStep.{FlagStep}
 use Rattle.schedule.specs.declared.steps.FlagStep.the-variants.{Begin, Move, Read}
-use Rattle.flag.specs.Flag.{wentBy, flipped, owner, logs}
+use Rattle.flag.specs.Flag.{wentBy, flipped, offerer, logs}
 use Rattle.flag.specs.Image.{entryBytes, imageBytes, inUse}
 use Rattle.flag.specs.declared.state.State.{State}
-use Rattle.flag.specs.declared.entry.Entry.{Entry}
 use Rattle.flag.specs.declared.entry.Entry.the-variants.{Flip, Saw}
 use Rattle.flag.specs.declared.moves.Flips.{Flips}
 use Rattle.flag.specs.declared.moves.Flips.the-variants.{Nobody, Mover, Both}
@@ -36,10 +36,6 @@ module _ (l : List ℕ) (at k : ℕ) where
         → Laid l at (entryBytes (Saw k v)) (at + 1 + 1 + 1 + 1) (set (set (set (set l at 3) (at + 1) 2) (at + 1 + 1) k) (at + 1 + 1 + 1) (boolByte v))
     saw-laid h p = whole-laid l at (entryBytes (Saw k v)) (at + 1 + 1 + 1 + 1) _ (omega arith) (omega arith) refl
 
--- an entry that was matched
-pub entry-laid : (e e′ : Entry) (l : List ℕ) (at r : ℕ) (l′ : List ℕ) → e ≡ e′ → Laid l at (entryBytes e′) r l′ → Laid l at (entryBytes e) r l′
-entry-laid e e′ l at r l′ p k = rw p k
-
 -- ---------- the flips of a move
 
 -- nothing is laid down anywhere
@@ -50,22 +46,22 @@ nothing-laid l at =
     (λ b. let h = leb-false _ _ b in none-laid l at [] h)
 
 module _ (flips : Flips) (places l : List ℕ) (at k : ℕ) where
-  pub flips-nobody : flips ≡ Nobody → Laid l at (pieces entryBytes (flipped flips (owner places) k)) at l
+  pub flips-nobody : flips ≡ Nobody → Laid l at (pieces entryBytes (flipped flips (offerer places) k)) at l
   flips-nobody e = rw e (nothing-laid l at)
 
   pub flips-mover : (r : ℕ) (l′ : List ℕ) → flips ≡ Mover → Laid l at (entryBytes (Flip k)) r l′
-      → Laid l at (pieces entryBytes (flipped flips (owner places) k)) r l′
+      → Laid l at (pieces entryBytes (flipped flips (offerer places) k)) r l′
   flips-mover r l′ e d = rw e d
 
   module _ (e : flips ≡ Both) where
-    pub flips-short : length l < 6 → Laid l at (pieces entryBytes (flipped flips (owner places) k)) at l
+    pub flips-short : length l < 6 → Laid l at (pieces entryBytes (flipped flips (offerer places) k)) at l
     flips-short h = rw e (none-laid l at _ (omega arith))
 
-    pub flips-past : 6 ≤ length l → length l - 6 < at → Laid l at (pieces entryBytes (flipped flips (owner places) k)) at l
+    pub flips-past : 6 ≤ length l → length l - 6 < at → Laid l at (pieces entryBytes (flipped flips (offerer places) k)) at l
     flips-past h p = rw e (none-laid l at _ (omega arith))
 
-    pub flips-both : 6 ≤ length l → at ≤ length l - 6 → (o p : ℕ) (m : List ℕ) (r : ℕ) (l′ : List ℕ) → o ≡ owner places
-        → Laid l at (entryBytes (Flip o)) p m → Laid m p (entryBytes (Flip k)) r l′ → Laid l at (pieces entryBytes (flipped flips (owner places) k)) r l′
+    pub flips-both : 6 ≤ length l → at ≤ length l - 6 → (o p : ℕ) (m : List ℕ) (r : ℕ) (l′ : List ℕ) → o ≡ offerer places
+        → Laid l at (entryBytes (Flip o)) p m → Laid m p (entryBytes (Flip k)) r l′ → Laid l at (pieces entryBytes (flipped flips (offerer places) k)) r l′
     flips-both h q o p m r l′ w a b = rw (e, ← w) (laid-then l at (entryBytes (Flip o)) (entryBytes (Flip k)) p m r l′ (omega arith) a b)
 
 few-flips : (f : Flips) (o k : ℕ) → length (pieces entryBytes (flipped f o k)) ≤ limit.entry
@@ -76,15 +72,13 @@ few-flips Both o k = omega arith
 -- whatever a step logs is few bytes
 pub logs-short : (s : State) (x : FlagStep) → length (pieces entryBytes (logs s x)) ≤ limit.entry
 logs-short s (Begin k) = omega arith
-logs-short s (Move k) = few-flips (wentBy s k .flips) (owner (s .places)) k
+logs-short s (Move k) = few-flips (wentBy s k .flips) (offerer (s .places)) k
 logs-short s (Read k) = omega arith
 
 -- ---------- the image
 
-used-small : (t : ℕ) → inUse t ≤ limit.threads
-used-small t = on (ltb t limit.threads)
-    (λ b. let h : t < limit.threads = ltb-true t limit.threads b in rw b (omega arith))
-    (λ b. rw b (omega arith))
+used-small : (n : ℕ) → inUse n ≤ limit.threads
+used-small n = at-most limit.threads n
 
 module _ (s : State) (n : ℕ) (e : n ≡ inUse (s .threads)) where
   small : n ≤ limit.threads

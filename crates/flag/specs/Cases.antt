@@ -87,6 +87,8 @@ cases =
     ∷ does (standing true 2 (5 ∷ 0 ∷ [])) (Read 1) (1 ∷ 2 ∷ 5 ∷ 0 ∷ []) (3 ∷ 2 ∷ 1 ∷ 1 ∷ [])
     ∷ refuses (standing true 0 (0 ∷ 0 ∷ [])) (Read 2) 11 (1 ∷ 0 ∷ 0 ∷ 0 ∷ [])
     ∷ refuses (standing true 0 (0 ∷ 4 ∷ [])) (Read 1) 12 (1 ∷ 0 ∷ 0 ∷ 4 ∷ [])
+    -- a state that is not sound, for there is no pending 3: its tests are the same
+    ∷ refusesUnsound (standing false 3 (0 ∷ [])) (Move 0) 12 (0 ∷ 3 ∷ 0 ∷ [])
     ∷ []
 
 -- ---------- whole runs of a fresh flag: the code, the place, the image at the end and the log
@@ -134,13 +136,13 @@ wrongFresh =
 abbrev freshCode : ℕ × Bool → ℕ
 freshCode p = freshOf (p .0) (p .1) .code
 
-abbrev freshFlag : ℕ × Bool → State
-freshFlag p = freshOf (p .0) (p .1) .state
+abbrev freshMade : ℕ × Bool → State
+freshMade p = freshOf (p .0) (p .1) .state
 
 abbrev pub Tabled : Type 0
 Tabled =
-    (allStarted flag sound imageBytes entryBytes freshCode freshFlag freshCases
+    (allStarted flag sound imageBytes entryBytes freshCode freshMade freshCases
     && (allRight flag sound imageBytes entryBytes cases
     && (allRight flag sound imageBytes entryBytes wholeRuns
-    && (noneStarted flag sound imageBytes entryBytes freshCode freshFlag wrongFresh && allWrong flag sound imageBytes entryBytes wrongCases))))
+    && (noneStarted flag sound imageBytes entryBytes freshCode freshMade wrongFresh && allWrong flag sound imageBytes entryBytes wrongCases))))
     ≡ true

@@ -1,7 +1,7 @@
 -- Demand 3's share of the flag, said of an accepted history and of where its steps lead. Proved in proofs/Demands.antt. Assumes nothing.
-use Prim.Native.Nat.{ℕ, zero, suc, _≤_}
+use Prim.Native.Nat.{ℕ, zero, suc, _≤_, _+_}
 use mathlib.Core.Path.{_≡_}
-use mathlib.Core.Bool.{Bool, true, false, not}
+use mathlib.Core.Bool.{Bool, true, false, not, cond}
 use mathlib.Core.List.{List, [], _∷_, _++_}
 use lib.Dec.{eqb}
 use Rattle.machine.specs.Machine.{Accepted}
@@ -10,7 +10,7 @@ use Rattle.machine.specs.Replay.{after}
 use Rattle.schedule.specs.Limits as limit
 use Rattle.schedule.specs.declared.steps.FlagStep.{FlagStep}
 use Rattle.schedule.specs.declared.steps.FlagStep.the-variants.{Begin, Move, Read}
-use Rattle.flag.specs.Flag.{flag, freshState}
+use Rattle.flag.specs.Flag.{flag, freshState, place}
 use Rattle.flag.specs.declared.state.State.{State}
 use Rattle.flag.specs.declared.entry.Entry.{Entry}
 use Rattle.flag.specs.declared.entry.Entry.the-variants.{Flip, Saw}
@@ -18,8 +18,8 @@ use Rattle.flag.specs.declared.entry.Entry.the-variants.{Flip, Saw}
 abbrev pub Hist : Type 0
 Hist = History flag
 
-abbrev pub event : FlagStep → List Entry → Event FlagStep Entry
-event x es = record { did = x; wrote = es }
+abbrev pub happened : FlagStep → List Entry → Event FlagStep Entry
+happened x es = record { did = x; wrote = es }
 
 -- ---------- what is counted
 
@@ -56,21 +56,32 @@ turned (suc n) v = not (turned n v)
 abbrev pub MayRead : State → Hist → ℕ → Type 0
 MayRead s₀ h k = Accepted flag (after flag s₀ (stepsOf h)) (Read k)
 
--- ---------- the demand. A flip of k runs from its begin to the thread's next begin, and is told apart wherever it stands in h: before it, during it,
--- later than its end, and the rest
+-- ---------- the demand
 
+-- a flip of k runs from its begin to the thread's next begin, and is told apart wherever it stands in h: before it, during it, later than its end, and the
+-- rest
 pub record Demand (s₀ : State) (v₀ : Bool) (h : Hist) : Type 0 where
   -- no thread has more flips logged than begun
   pub none-unbegun : (k : ℕ) → flips h k ≤ begins h k
   -- a flip is logged at most once, and never by its own begin
-  pub at-most-once : (k : ℕ) (rest during before : Hist) (es : List Entry) → h ≡ rest ++ (during ++ (event (Begin k) es ∷ before)) → begins during k ≡ 0
+  pub at-most-once : (k : ℕ) (rest during before : Hist) (es : List Entry) → h ≡ rest ++ (during ++ (happened (Begin k) es ∷ before)) → begins during k ≡ 0
       → (es ≡ []) × (flips during k ≤ 1)
   -- a finished one, also a helped or cancelled one, exactly once, by a step after its beginning and not after its end
-  pub finished-once : (k : ℕ) (rest later during before : Hist) (es : List Entry) → h ≡ rest ++ (later ++ (during ++ (event (Begin k) es ∷ before)))
+  pub finished-once : (k : ℕ) (rest later during before : Hist) (es : List Entry) → h ≡ rest ++ (later ++ (during ++ (happened (Begin k) es ∷ before)))
       → begins during k ≡ 0 → begins later k ≡ 0
-      → MayRead s₀ (during ++ (event (Begin k) es ∷ before)) k → (flips during k ≡ 1) × (flips later k ≡ 0)
+      → MayRead s₀ (during ++ (happened (Begin k) es ∷ before)) k → (flips during k ≡ 1) × (flips later k ≡ 0)
   -- each read shows the initial value turned once for every flip logged before it
-  pub reads : (k : ℕ) (later before : Hist) (es : List Entry) → h ≡ later ++ (event (Read k) es ∷ before) → es ≡ Saw k (turned (allFlips before) v₀) ∷ []
+  pub reads : (k : ℕ) (later before : Hist) (es : List Entry) → h ≡ later ++ (happened (Read k) es ∷ before) → es ≡ Saw k (turned (allFlips before) v₀) ∷ []
 
+-- after every accepted prefix from a fresh machine
 abbrev pub Demanded : Type 0
 Demanded = (n : ℕ) (v₀ : Bool) → 1 ≤ n → n ≤ limit.threads → (h : Hist) (s : State) → Run flag (freshState n v₀) h s → Demand (freshState n v₀) v₀ h
+
+-- and what the state owes is counted: of each thread, the flips begun are those logged and the one that it has not done yet. Places 1 to 4 owe it; 5 owes it
+-- until another has carried it out, that is until `pending` is 2; 0 and 6 owe nothing. And the value is the initial one turned once for each flip logged
+abbrev pub owed : ℕ → ℕ → ℕ
+owed p d = cond (eqb p 0) 0 (cond (eqb p 6) 0 (cond (eqb p 5) (cond (eqb d 2) 0 1) 1))
+
+abbrev pub FlipsOwed : Type 0
+FlipsOwed = (n : ℕ) (v₀ : Bool) → 1 ≤ n → n ≤ limit.threads → (h : Hist) (s : State) → Run flag (freshState n v₀) h s
+    → ((k : ℕ) → begins h k ≡ flips h k + owed (place s k) (s .pending)) × (s .value ≡ turned (allFlips h) v₀)

@@ -71,9 +71,9 @@ abbrev pub wentBy : State → ℕ → Went
 wentBy s k = went (place s k) (s .pending) (s .value)
 
 -- the first thread at 5
-abbrev pub owner : List ℕ → ℕ
-owner [] = 0
-owner (p ∷ ps) = cond (eqb p 5) 0 (suc (owner ps))
+abbrev pub offerer : List ℕ → ℕ
+offerer [] = 0
+offerer (p ∷ ps) = cond (eqb p 5) 0 (suc (offerer ps))
 
 -- ---------- the state after, and what is logged
 
@@ -93,7 +93,7 @@ flipped Both o k = Flip o ∷ Flip k ∷ []
 
 abbrev pub logs : State → FlagStep → List Entry
 logs s (Begin k) = []
-logs s (Move k) = flipped (wentBy s k .flips) (owner (s .places)) k
+logs s (Move k) = flipped (wentBy s k .flips) (offerer (s .places)) k
 logs s (Read k) = Saw k (s .value) ∷ []
 
 pub rising : (s : State) (x : FlagStep) → rises 1 (tests s x) ≡ true

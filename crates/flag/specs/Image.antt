@@ -1,10 +1,9 @@
 -- The bytes of an entry and of a state: the scope, "Log and image". Assumes nothing.
 use Prim.Native.Nat.{ℕ}
-use mathlib.Core.Bool.{cond}
 use mathlib.Core.List.{List, [], _∷_}
 use mir.Val.{boolByte}
-use lib.Dec.{ltb}
 use lib.ListN.{take}
+use Rattle.rows.specs.Walk.{atMost}
 use Rattle.schedule.specs.Limits as limit
 use Rattle.flag.specs.declared.state.State.{State}
 use Rattle.flag.specs.declared.entry.Entry.{Entry}
@@ -15,9 +14,9 @@ abbrev pub entryBytes : Entry → List ℕ
 entryBytes (Flip k) = 2 ∷ 1 ∷ k ∷ []
 entryBytes (Saw k v) = 3 ∷ 2 ∷ k ∷ boolByte v ∷ []
 
--- the threads there are, in a made-up state no more than there is room for
+-- how many of the row are in use; in a made-up state no more than there are
 abbrev pub inUse : ℕ → ℕ
-inUse threads = cond (ltb threads limit.threads) threads limit.threads
+inUse n = atMost limit.threads n
 
 -- value, pending, places
 abbrev pub imageBytes : State → List ℕ

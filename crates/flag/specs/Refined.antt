@@ -1,13 +1,13 @@
--- How a state stands for the source's, and what is proved of the two: proofs/Refines.antt and proofs/Sounds.antt. Assumes nothing.
+-- How a state stands for the source's, and what is proved of the two: proofs/Refines.antt. Assumes nothing.
 use Prim.Native.Nat.{ℕ, suc, _≤_, _<_}
 use mathlib.Core.Path.{_≡_}
-use mathlib.Core.Bool.{Bool, true, cond}
+use mathlib.Core.Bool.{Bool, true, cond, false}
 use mathlib.Core.List.{List, [], _∷_, _++_}
 use lib.Dec.{eqb}
 use lib.ListN.{length}
 use Rattle.machine.specs.Machine.{Accepted}
 use Rattle.machine.specs.Replay.{AllAccepted, after}
-use Rattle.machine.specs.Sourced.{Sourced, Upholds}
+use Rattle.machine.specs.Sourced.{Sourced, Inductive, Upholds}
 use Rattle.schedule.specs.Limits as limit
 use Rattle.schedule.specs.declared.steps.FlagStep.{FlagStep}
 use Rattle.schedule.specs.declared.steps.FlagStep.the-variants.{Begin, Move, Read}
@@ -63,7 +63,7 @@ pub record Sound (s : State) : Type 0 where
   pub inv : FlagInv (abs s)
   -- the row is whole, there are threads, and no more than its room
   pub whole : length (s .places) ≡ limit.threads
-  pub some : 1 ≤ s .threads
+  pub any : 1 ≤ s .threads
   pub few : s .threads ≤ limit.threads
   pub places : (k : ℕ) → place s k ≤ 6
   pub unused : (k : ℕ) → s .threads ≤ k → place s k ≡ 0
@@ -106,17 +106,17 @@ pub data EndsWithin (k : ℕ) : ℕ → State → Type 0 where
   goes : {m : ℕ} {s : State} → Accepted flag s (Move k) → EndsWithin k m (next s (Move k)) → EndsWithin k (suc m) s
 
 -- under interference no bound holds: for every n there is an accepted schedule in which thread k makes n moves and more in one flip
-abbrev pub moves-of : ℕ → List FlagStep → ℕ
-moves-of k [] = 0
-moves-of k (Begin j ∷ xs) = moves-of k xs
-moves-of k (Move j ∷ xs) = cond (eqb j k) (suc (moves-of k xs)) (moves-of k xs)
-moves-of k (Read j ∷ xs) = moves-of k xs
+abbrev pub movesOf : ℕ → List FlagStep → ℕ
+movesOf k [] = 0
+movesOf k (Begin j ∷ xs) = movesOf k xs
+movesOf k (Move j ∷ xs) = cond (eqb j k) (suc (movesOf k xs)) (movesOf k xs)
+movesOf k (Read j ∷ xs) = movesOf k xs
 
 pub record Wanders (s : State) (k n : ℕ) : Type 0 where
   pub steps : List FlagStep
   pub accepted : AllAccepted flag s steps
   pub returns : after flag s steps ≡ s
-  pub many : n ≤ moves-of k steps
+  pub many : n ≤ movesOf k steps
   pub never : (xs ys : List FlagStep) → steps ≡ xs ++ ys → place (after flag s xs) k ≡ 0 → ⊥
 
 -- ---------- what is proved
@@ -130,6 +130,9 @@ pub record Refines : Type 0 where
   pub means-sound : (s : State) → Sound s → sound s ≡ true
   -- of a sound state: a step is accepted exactly when it is enabled, and then does what the source says and leaves a sound state
   pub upholds : Upholds helping Sound
+  -- the source's own proofs, over all of its states: it starts with its invariants, and its transitions keep them
+  pub initial : (n : ℕ) (v : Bool) → FlagInv (source.new n v)
+  pub inductive : Inductive helping FlagInv
   -- the scope's table of places is the source's loop
   pub table : (c : Control) (m : Memory) → (c ≡ source.returned → ⊥)
       → went (number c) (m .pending) (m .value)
@@ -142,5 +145,5 @@ pub record Refines : Type 0 where
   pub numbered : (c : Control) → control (number c) ≡ c
   -- a lone flip ends within five moves, from any sound state with the thread anywhere in its flip
   pub ends : (s : State) → Sound s → (k : ℕ) → k < s .threads → EndsWithin k 5 s
-  -- and under interference no bound holds
-  pub unbounded : (s : State) × (Sound s × ((n : ℕ) → Wanders s 0 n))
+  -- and under interference no bound holds: from where thread 0 of two has just begun (P12)
+  pub unbounded : (n : ℕ) → Wanders (next (freshState 2 false) (Begin 0)) 0 n

@@ -109,17 +109,20 @@ with-thread pre k c m = record { memory = m; threads = pre .threads; controls = 
 
 -- ---------- the transitions, each of a thread that the flag has: who is none of its threads never moves
 
-pub record Flip-called (pre : Flag) (k : ℕ) (post : Flag) : Type 0 where
+-- `flip` is called
+pub record Begin (pre : Flag) (k : ℕ) (post : Flag) : Type 0 where
   pub thread : k < pre .threads
   pub outside : pre .controls k ≡ returned
   pub update : post ≡ with-thread pre k try-cancel-two-flips (pre .memory)
 
-pub record Flip-goes-on (pre : Flag) (k : ℕ) (post : Flag) : Type 0 where
+-- a thread in `flip` goes on by one operation
+pub record Move (pre : Flag) (k : ℕ) (post : Flag) : Type 0 where
   pub thread : k < pre .threads
   pub inside : pre .controls k ≡ returned → ⊥
   pub update : post ≡ with-thread pre k (control-after (pre .controls k) (pre .memory)) (memory-after (pre .controls k) (pre .memory))
 
-pub record Read-called (pre : Flag) (k : ℕ) (post : Flag) : Type 0 where
+-- `read` is called
+pub record Read (pre : Flag) (k : ℕ) (post : Flag) : Type 0 where
   pub thread : k < pre .threads
   pub outside : pre .controls k ≡ returned
   pub update : post ≡ pre
@@ -130,9 +133,9 @@ pub data Transition : Type 0 where
   read : ℕ → Transition
 
 abbrev pub Moves : Flag → Transition → Flag → Type 0
-Moves pre (begin k) post = Flip-called pre k post
-Moves pre (move k) post = Flip-goes-on pre k post
-Moves pre (read k) post = Read-called pre k post
+Moves pre (begin k) post = Begin pre k post
+Moves pre (move k) post = Move pre k post
+Moves pre (read k) post = Read pre k post
 
 -- an exchange looks before it writes, and takes nothing for granted; the store does not look, and the source owes that it takes note of an offer that was
 -- accepted

@@ -4,7 +4,7 @@ use super::moves::Flips;
 use schedule::limits;
 ghost use Rattle.rows.specs.Stores.{Laid};
 ghost use Rattle.rows.specs.Walk.{pieces};
-ghost use Rattle.flag.specs.Flag.{flipped, owner};
+ghost use Rattle.flag.specs.Flag.{flipped, offerer};
 ghost use Rattle.flag.specs.Image.{entryBytes};
 
 pub enum Entry {
@@ -68,7 +68,7 @@ pub fn put_flips(
     places: [u8; limits::THREADS],
     k: u8,
 ) -> usize
-    ensures { λ r. ⌜ Laid (now (log .entry)) at (pieces entryBytes (flipped flips (owner places) k)) r (now (log .exit)) ⌝ }
+    ensures { λ r. ⌜ Laid (now (log .entry)) at (pieces entryBytes (flipped flips (offerer places) k)) r (now (log .exit)) ⌝ }
 {
     match flips {
         Flips::Nobody => at,
@@ -80,7 +80,7 @@ pub fn put_flips(
             if log.len() - 6 < at {
                 return at;
             }
-            let o = moves::owner(places);
+            let o = moves::offerer(places);
             let p = put_flip(log, at, o);
             put_flip(log, p, k)
         }

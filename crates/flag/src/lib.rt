@@ -2,6 +2,6 @@
 // A state goes in by value and comes back by value. Every public function here takes any input.
 pub mod state; // the state: fresh, and its image
 pub mod sound; // the test of a made-up state
-pub mod moves; // one move of a thread, from its place and the flag's head
+pub mod moves; // one move of a thread, from its place, the flag's value and what is pending
 pub mod entry; // what a step logs
 pub mod single; // one step on any state

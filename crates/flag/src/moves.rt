@@ -1,10 +1,10 @@
-// One move of a thread, shared by the single step and by the replay loop: from its place and the flag's head to its next place, as the source's
-// loop goes on after the exchange that the place stands before.
+// One move of a thread, shared by the single step and by the replay loop: from its place, the flag's value and what is pending to its next place, as
+// the source's loop goes on after the exchange or store that the place stands before.
 use machine::codes;
 use schedule::limits;
 ghost use mathlib.Core.Path.{_≡_};
 ghost use Rattle.machine.specs.Check.{first};
-ghost use Rattle.flag.specs.Flag as machine;
+ghost use Rattle.flag.specs.Flag as definition;
 ghost use Rattle.flag.specs.Flag.{insideTests, idleTests, went};
 ghost use Rattle.flag.specs.Moved.{mayMove};
 
@@ -16,7 +16,7 @@ pub enum Flips {
     Both,
 }
 
-// Where a move leads: the thread's place and the flag's head.
+// Where a move leads: the thread's place, the flag's value and what is pending, and whose flips it carries out.
 pub struct Went {
     pub place: u8,
     pub pending: u8,
@@ -68,8 +68,8 @@ fn to(place: u8, pending: u8, value: bool, flips: Flips) -> Went
     }
 }
 
-// Each place's exchange, and where the loop goes when it succeeds and when it fails.
-pub fn exchange(place: u8, pending: u8, value: bool) -> Went
+// Each place's exchange or store, and where the loop goes when it succeeds and when it fails.
+pub fn go_on(place: u8, pending: u8, value: bool) -> Went
     ensures { λ r. ⌜ r ≡ went place pending value ⌝ }
 {
     if place == 1 {
@@ -109,8 +109,8 @@ pub fn exchange(place: u8, pending: u8, value: bool) -> Went
 }
 
 // The first thread that offers its flip, found only when the flip is taken.
-pub fn owner(places: [u8; limits::THREADS]) -> u8
-    ensures { λ r. ⌜ r ≡ machine.owner places ⌝ }
+pub fn offerer(places: [u8; limits::THREADS]) -> u8
+    ensures { λ r. ⌜ r ≡ definition.offerer places ⌝ }
 {
     let mut i: usize = 0;
     while i < limits::THREADS {

@@ -110,7 +110,7 @@ fn move_on(s: State, k: u8, log: &mut [u8]) -> Answer
     if b != 0 {
         return quiet(s, b);
     }
-    let w = moves::exchange(p, s.pending, s.value);
+    let w = moves::go_on(p, s.pending, s.value);
     let flips = w.flips;
     let places = s.places;
     let n = entry::put_flips(log, 0, flips, places, k);

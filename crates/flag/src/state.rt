@@ -50,7 +50,7 @@ fn idle(threads: u8, value: bool, code: u8) -> Made
 pub fn image(s: State, out: &mut [u8]) -> usize
     ensures { λ r. ⌜ Laid (now (out .entry)) 0 (imageBytes s) r (now (out .exit)) ⌝ }
 {
-    let n = threads_used(s.threads);
+    let n = in_use(s.threads);
     if out.len() < 2 + n {
         return 0;
     }
@@ -60,8 +60,8 @@ pub fn image(s: State, out: &mut [u8]) -> usize
     rows::put(out, b, &places[..n])
 }
 
-// How many threads there are: as many as the state says, and in a made-up one no more than there is room for.
-fn threads_used(threads: u8) -> usize
+// How many of the row are in use; in a made-up state no more than there are.
+fn in_use(threads: u8) -> usize
     ensures { λ r. ⌜ r ≡ inUse threads ⌝ }
 {
     let n = threads as usize;

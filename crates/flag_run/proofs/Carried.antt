@@ -1,4 +1,4 @@
--- What the flag has of its own for the laws of a run, and that good parameters make a flag that a run may start from. Assumes nothing.
+-- What the flag has of its own for the laws of a run, and that a run may start from a machine that its parameters make. Assumes nothing.
 use mathlib.Core.Path.{_≡_}
 use mathlib.Core.Bool.{Bool}
 use mathlib.Core.List.{List}

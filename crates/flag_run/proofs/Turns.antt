@@ -17,7 +17,7 @@ use Rattle.schedule.specs.declared.steps.FlagStep.{FlagStep}
 use Rattle.schedule.specs.declared.steps.FlagStep.the-variants.{Begin, Move, Read}
 use Rattle.schedule.proofs.Running as running
 use Rattle.schedule.proofs.Running.{Runs, Out, fair-stops, fair-quiet, fair-loud, fair-says}
-use Rattle.flag.specs.Flag.{flag, insideTests, place, wentBy, owner, flipped, withPlace}
+use Rattle.flag.specs.Flag.{flag, insideTests, place, wentBy, offerer, flipped, withPlace}
 use Rattle.flag.specs.Moved.{mayMove}
 use Rattle.flag.specs.Sound.{sound}
 use Rattle.flag.specs.Image.{entryBytes}
@@ -66,7 +66,7 @@ module _ (f : List ℕ) (from n : ℕ) (q₀ : State) (log₀ : List ℕ) (used 
 
       module _ (w′ : ℕ) (log′ : List ℕ) where
         pub move-turn : x ≡ Move t → (a : ℕ) → a ≡ first (insideTests (q .threads) t) → a ≡ 0 → (b : ℕ) → b ≡ mayMove (place q t) → b ≡ 0
-            → (m : Went) → m ≡ wentBy q t → Laid log w (pieces entryBytes (flipped (m .flips) (owner (q .places)) t)) w′ log′
+            → (m : Went) → m ≡ wentBy q t → Laid log w (pieces entryBytes (flipped (m .flips) (offerer (q .places)) t)) w′ log′
             → Then log′ (withPlace q t (m .place) (m .pending) (m .value)) w′
         unfolding widthsOf widths
         move-turn e a pa za b pb zb m p l =

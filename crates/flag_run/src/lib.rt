@@ -19,6 +19,7 @@ ghost use lib.ListN.{length};
 ghost use Rattle.schedule.specs.Answers.{Leaves};
 ghost use Rattle.schedule.specs.Running.{Counts, Runnable, Ended, restRun};
 ghost use Rattle.schedule.specs.Widths as kind;
+ghost use Rattle.flag.specs.Refined.{Sound};
 ghost use Rattle.flag_run.specs.Run.{runner, leftBy, restOfFile};
 
 // What a run leaves: the state after the accepted steps, the index of the step that stopped it or the number of steps, and how far the log is
@@ -97,7 +98,7 @@ fn run(file: &[u8], from: usize, n: usize, start: State, log: &mut [u8], used: u
                         code: b,
                     };
                 }
-                let g = moves::exchange(p, s.pending, s.value);
+                let g = moves::go_on(p, s.pending, s.value);
                 let flips = g.flips;
                 let places = s.places;
                 w = entry::put_flips(log, w, flips, places, t);
@@ -178,7 +179,7 @@ fn replayed(
     image: &mut [u8],
 ) -> Answer
     requires { ⌜ Counts kind.flag (now file) from n ⌝ }
-    requires { ⌜ runner .Good start ⌝ }
+    requires { ⌜ Sound start ⌝ }
     ensures { λ r. ⌜ Leaves (restRun runner start (now (file .entry)) from (now (log .entry)) (now (image .entry))) r (now (log .exit)) (now (image .exit)) ⌝ }
 {
     if log.len() < n * limits::ENTRY {

@@ -7,12 +7,12 @@ use native.Mathlib.Omega.{arith}
 use lib.ListN.{length, getD, length-append, length-map, List·getD-append, List·getD-map}
 use Rattle.machine.specs.History.{Run}
 use Rattle.machine.proofs.Runs.{always}
+use Rattle.rows.proofs.Rows.{getD-replicate}
 use Rattle.schedule.specs.Limits as limit
 use Rattle.flat.specs.Flat.{flat, zeroClient, freshState}
 use Rattle.flat.specs.Demand.{Hist, Message, message, requests, answers, turn, sends, nth, Demanded}
 use Rattle.flat.specs.declared.state.Client.{Client}
 use Rattle.flat.specs.declared.state.State.{State}
-use Rattle.flat.proofs.Unused.{getD-fresh}
 use Rattle.flat.proofs.Sounds.{fresh-stages}
 use Rattle.flat.proofs.Kept.{ids, Stage, at-rest, has-asked, was-gathered, was-answered, Listed, keep}
 
@@ -28,7 +28,7 @@ module _ (n : ℕ) (b : n ≤ limit.clients) where
       record {
         rows = i .rows;
         mode = i .mode;
-        stage = λ j. at-rest (getD-fresh limit.clients j zeroClient) refl refl (λ x y. absurd (omega arith));
+        stage = λ j. at-rest (getD-replicate limit.clients j zeroClient) refl refl (λ x y. absurd (omega arith));
       }
 
   pub run-inv : {h : Hist} {s : State} → Run flat (freshState n) h s → Inv h s

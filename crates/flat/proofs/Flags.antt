@@ -1,9 +1,9 @@
 -- The source's invariants at one client, said of the client's flags: that they hold is that the client is in one of its four stages. Assumes nothing.
 use Prim.Native.Nat.{ℕ}
 use mathlib.Core.Path.{_≡_, refl, sym, ap, _∙_}
-use mathlib.Core.Bool.{Bool, true, false}
+use mathlib.Core.Bool.{true, false}
 use mathlib.Core.Logic.{_⊎_, inl, inr}
-use Rattle.rows.proofs.Cases.{on, clash}
+use Rattle.rows.proofs.Cases.{on, cannot, clash}
 use Rattle.flat.specs.declared.state.Client.{Client}
 use Rattle.flat.specs.declared.state.Elem.{Elem}
 use Rattle.flat.proofs.Stages.{held, FreeAt, HasAt, Stand, rests, asks, isHeld, isTold, same-elem, same-client}
@@ -75,34 +75,29 @@ module _ {c : Client} {F : Type 0} {G : ℕ → Type 0} where
 
 -- ---------- and flags and zeros settle a stage
 
--- a flag that cannot be set is clear
-no : (b : Bool) → (b ≡ true → ⊥) → b ≡ false
-no true n = absurd (n refl)
-no false n = refl
-
 module _ {c : Client} {F : Type 0} {G : ℕ → Type 0} (i : Flags c G) (z : Zeros c) (free : ((rid : ℕ) → G rid → ⊥) → F) where
   idle-stand : c .waiting ≡ false → Stand c F G
   idle-stand w =
-      let a = no (c .asked) (λ b. clash (cc (i .stores b .0))) in
-      let t = no (c .told) (λ b. clash (cc (i .tells b .0))) in
+      let a = cannot (c .asked) (λ b. clash (cc (i .stores b .0))) in
+      let t = cannot (c .told) (λ b. clash (cc (i .tells b .0))) in
       rests (same-client (z .no-rid w) (z .no-req a) (z .no-resp t) w a t (i .idle w)) (free (λ rid g. clash (cc (i .has rid g .0))))
 
   asking-stand : c .asked ≡ true → Stand c F G
   asking-stand a =
       let k = i .stores a in
-      let t = no (c .told) (λ b. clash (cc (i .tells b .1))) in
+      let t = cannot (c .told) (λ b. clash (cc (i .tells b .1))) in
       asks (c .rid) (c .req) (same-client refl refl (z .no-resp t) (k .0) a t (k .1)) (free (λ rid g. clash (cc (i .has rid g .3))))
 
   told-stand : c .told ≡ true → Stand c F G
   told-stand t =
       let k = i .tells t in
-      let a = no (c .asked) (λ b. clash (cc (i .stores b .1))) in
+      let a = cannot (c .asked) (λ b. clash (cc (i .stores b .1))) in
       isTold (c .rid) (c .resp) (same-client refl (z .no-req a) refl (k .0) a t (k .1)) (free (λ rid g. clash (cc (i .has rid g .2))))
 
   held-stand : (rid : ℕ) → G rid → Stand c F G
   held-stand rid g =
       let k = i .has rid g in
-      let t = no (c .told) (λ b. clash (cc (i .tells b .1))) in
+      let t = cannot (c .told) (λ b. clash (cc (i .tells b .1))) in
       isHeld rid (same-client (k .1) (z .no-req (k .3)) (z .no-resp t) (k .0) (k .3) t (k .2)) g
 
   waiting-stand : (c .asked ≡ true) ⊎ (c .told ≡ true) ⊎ ((rid : ℕ) × G rid) → Stand c F G

@@ -79,7 +79,7 @@ module _ (pre : FlatCombiner) (i : Invariants pre) where
     x = some (request .rid)
 
     abbrev gathered : FlatCombiner
-    gathered = source.with pre (pre .clients) (pre .slots) (Collecting (es ++ (x ∷ []))) (without (length es) (pre .requests)) (pre .responses)
+    gathered = source.with-parts pre (pre .clients) (pre .slots) (Collecting (es ++ (x ∷ []))) (without (length es) (pre .requests)) (pre .responses)
 
     now-waits : (k : ℕ) → client-waiting pre k → request-stored pre k ⊎ response-stored pre k ⊎ combiner-has pre k
         → request-stored gathered k ⊎ response-stored gathered k ⊎ combiner-has gathered k
@@ -153,7 +153,7 @@ module _ (pre : FlatCombiner) (i : Invariants pre) where
 
   moved-on : (c : Combiner) → sized c (pre .num-clients) → ((k rid : ℕ) → k < pre .num-clients → holds-rid (pre .combiner) k rid → holds-rid c k rid)
       → ((k rid : ℕ) → k < pre .num-clients → holds-rid c k rid → holds-rid (pre .combiner) k rid)
-      → Invariants (source.with pre (pre .clients) (pre .slots) c (pre .requests) (pre .responses))
+      → Invariants (source.with-parts pre (pre .clients) (pre .slots) c (pre .requests) (pre .responses))
   moved-on c s had has =
       record {
         clients = record { inside = i .clients .inside; outside = i .clients .outside };

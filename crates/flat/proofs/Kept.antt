@@ -42,17 +42,17 @@ pub data Stage (xs ys zs : List Message) (c : Client) (F : Type 0) (G : ℕ → 
   was-answered : (rid resp : ℕ) → c ≡ answered rid resp → ys ≡ zs ++ message rid resp ∷ [] → ids xs ≡ ids ys → F → Stage xs ys zs c F G
 
 module _ {xs ys zs : List Message} {c : Client} {F : Type 0} {G : ℕ → Type 0} where
-  send-stage : (rid req : ℕ) → not (c .waiting) ≡ true → Stage xs ys zs c F G → Stage (xs ++ message rid req ∷ []) ys zs (sending c rid req) F G
-  send-stage rid req t (at-rest e v w f) = has-asked rid req (rw e) v (ids-snoc xs (message rid req) ∙ rw w) f
-  send-stage rid req t (has-asked r q e v w f) = clash (cc)
-  send-stage rid req t (was-gathered r e v w g) = clash (cc)
-  send-stage rid req t (was-answered r q e v w f) = clash (cc)
+  client-send-stage : (rid req : ℕ) → not (c .waiting) ≡ true → Stage xs ys zs c F G → Stage (xs ++ message rid req ∷ []) ys zs (sending c rid req) F G
+  client-send-stage rid req t (at-rest e v w f) = has-asked rid req (rw e) v (ids-snoc xs (message rid req) ∙ rw w) f
+  client-send-stage rid req t (has-asked r q e v w f) = clash (cc)
+  client-send-stage rid req t (was-gathered r e v w g) = clash (cc)
+  client-send-stage rid req t (was-answered r q e v w f) = clash (cc)
 
-  recv-stage : c .waiting ≡ true → not (c .slot) ≡ true → Stage xs ys zs c F G → Stage xs ys (zs ++ message (c .rid) (c .resp) ∷ []) (receiving c) F G
-  recv-stage t u (at-rest e v w f) = clash (cc)
-  recv-stage t u (has-asked r q e v w f) = clash (cc)
-  recv-stage t u (was-gathered r e v w g) = clash (cc)
-  recv-stage t u (was-answered r q e v w f) = at-rest (rw e) (rw e v) w f
+  client-recv-stage : c .waiting ≡ true → not (c .slot) ≡ true → Stage xs ys zs c F G → Stage xs ys (zs ++ message (c .rid) (c .resp) ∷ []) (receiving c) F G
+  client-recv-stage t u (at-rest e v w f) = clash (cc)
+  client-recv-stage t u (has-asked r q e v w f) = clash (cc)
+  client-recv-stage t u (was-gathered r e v w g) = clash (cc)
+  client-recv-stage t u (was-answered r q e v w f) = at-rest (rw e) (rw e v) w f
 
 module _ {xs ys zs : List Message} {c : Client} {F : Type 0} {G : ℕ → Type 0} {F′ : Type 0} {G′ : ℕ → Type 0} where
   -- the client stays as it is, and the combiner has of it what it had
@@ -62,19 +62,19 @@ module _ {xs ys zs : List Message} {c : Client} {F : Type 0} {G : ℕ → Type 0
   same-stage f g (was-gathered r e v w a) = was-gathered r e v w (g r a)
   same-stage f g (was-answered r q e v w a) = was-answered r q e v w (f a)
 
-  gather-stage : c .slot ≡ true → ((rid : ℕ) → G rid → ⊥) → G′ (c .rid) → Stage xs ys zs c F G → Stage xs ys zs (gathering c) F′ G′
-  gather-stage t n g (at-rest e v w f) = clash (cc)
-  gather-stage t n g (has-asked r q e v w f) = was-gathered r (rw e) v w (rw e at g)
-  gather-stage t n g (was-gathered r e v w a) = absurd (n r a)
-  gather-stage t n g (was-answered r q e v w f) = clash (cc)
+  combiner-recv-stage : c .slot ≡ true → ((rid : ℕ) → G rid → ⊥) → G′ (c .rid) → Stage xs ys zs c F G → Stage xs ys zs (gathering c) F′ G′
+  combiner-recv-stage t n g (at-rest e v w f) = clash (cc)
+  combiner-recv-stage t n g (has-asked r q e v w f) = was-gathered r (rw e) v w (rw e at g)
+  combiner-recv-stage t n g (was-gathered r e v w a) = absurd (n r a)
+  combiner-recv-stage t n g (was-answered r q e v w f) = clash (cc)
 
-  answer-stage : (rid resp : ℕ) → (F → ⊥) → ((u : ℕ) → G u → u ≡ rid) → F′ → Stage xs ys zs c F G
+  combiner-send-stage : (rid resp : ℕ) → (F → ⊥) → ((u : ℕ) → G u → u ≡ rid) → F′ → Stage xs ys zs c F G
       → Stage xs (ys ++ message rid resp ∷ []) zs (answering c resp) F′ G′
-  answer-stage rid resp n g f (at-rest e v w a) = absurd (n a)
-  answer-stage rid resp n g f (has-asked r q e v w a) = absurd (n a)
-  answer-stage rid resp n g f (was-gathered u e v w a) =
+  combiner-send-stage rid resp n g f (at-rest e v w a) = absurd (n a)
+  combiner-send-stage rid resp n g f (has-asked r q e v w a) = absurd (n a)
+  combiner-send-stage rid resp n g f (was-gathered u e v w a) =
       was-answered rid resp (rw (e, g u a)) (rw v) (w ∙ rw (g u a) (sym (ids-snoc ys (message rid resp)))) f
-  answer-stage rid resp n g f (was-answered r q e v w a) = absurd (n a)
+  combiner-send-stage rid resp n g f (was-answered r q e v w a) = absurd (n a)
 
 -- ---------- the whole state with its lists
 
@@ -96,7 +96,7 @@ module _ (X Y Z : ℕ → List Message) (t : ℕ) (s : State) (i : Listed X Y Z 
         mode = i .mode;
         stage = λ j. row-case (λ z. Stage (add (eqb j k) (message rid req) (X j)) (Y j) (Z j) z (Free s j) (Has s j)) (s .clients) k j _ zeroClient
             (in-clients s (i .rows) k (p .0))
-            (λ e. rw (eq-eqb j k e, e) (send-stage rid req (p .1 .0) (i .stage k)))
+            (λ e. rw (eq-eqb j k e, e) (client-send-stage rid req (p .1 .0) (i .stage k)))
             (λ n. rw (ne-eqb j k n) (i .stage j));
       }
 
@@ -108,7 +108,7 @@ module _ (X Y Z : ℕ → List Message) (t : ℕ) (s : State) (i : Listed X Y Z 
         stage = λ j. row-case (λ z. Stage (X j) (Y j) (add (eqb j k) (message (client s k .rid) (client s k .resp)) (Z j)) z (Free s j) (Has s j))
             (s .clients) k j _ zeroClient
             (in-clients s (i .rows) k (p .0))
-            (λ e. rw (eq-eqb j k e, e) (recv-stage (p .1 .0) (p .1 .1 .0) (i .stage k)))
+            (λ e. rw (eq-eqb j k e, e) (client-recv-stage (p .1 .0) (p .1 .1 .0) (i .stage k)))
             (λ n. rw (ne-eqb j k n) (i .stage j));
       }
 
@@ -124,7 +124,7 @@ module _ (X Y Z : ℕ → List Message) (t : ℕ) (s : State) (i : Listed X Y Z 
         stage = λ j. row-case (λ z. Stage (X j) (Y j) (Z j) z (Free (next s CombinerRecv) j) (Has (next s CombinerRecv) j)) (s .clients) k j _ zeroClient
             (in-clients s (i .rows) k (p .1 .0))
             (λ e. rw e
-            (gather-stage (p .1 .1 .0) (λ rid g. omega (arith, g .1)) (omega (arith, m .0), omega arith, getD-set-same (s .elems) k _ zeroElem b) (i .stage k)))
+            (combiner-recv-stage (p .1 .1 .0) (λ rid g. omega (arith, g .1)) (omega (arith, m .0), omega arith, getD-set-same (s .elems) k _ zeroElem b) (i .stage k)))
             (λ n. same-stage
             (λ f x y. rw (getD-set-other (s .elems) k j _ zeroElem n) (f x (omega arith)))
             (λ rid g. (g .0, omega (arith, g .1), rw (getD-set-other (s .elems) k j _ zeroElem n) (g .2)))
@@ -167,7 +167,7 @@ module _ (X Y Z : ℕ → List Message) (t : ℕ) (s : State) (i : Listed X Y Z 
         stage = λ j. row-case (λ z. Stage (X j) (add (eqb j t) (message rid resp) (Y j)) (Z j) z (Free (next s x) j) (Has (next s x) j)) (s .clients) k j _ zeroClient
             (in-clients s (i .rows) k (p .1 .0))
             (λ e. rw (m .2, eq-eqb j k e, e)
-            (answer-stage rid resp
+            (combiner-send-stage rid resp
             (λ f. clash (cc (f (omega arith) (omega (arith, ltb-true, p .1 .0, m .0)), p .1 .1 .0)))
             (λ u g. sym (rw (g .2) at (eqb-true rid (elem s k .rid) (p .1 .1 .1 .0))))
             (λ x y. absurd (omega arith))

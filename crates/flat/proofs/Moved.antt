@@ -41,16 +41,16 @@ module _ (s : State) (safe : sound s ≡ true) where
   past j b = List·getD-eq-default (s .clients) zeroClient {n = j} (ltb-false j (length (s .clients)) b)
 
   -- an accepted client_recv has its response
-  pub recv-told : (j : ℕ) → first (recvTests (client s j)) ≡ 0 → client s j .told ≡ true
-  recv-told j z =
+  pub client-recv-told : (j : ℕ) → first (recvTests (client s j)) ≡ 0 → client s j .told ≡ true
+  client-recv-told j z =
       let t = all-first (recvTests (client s j)) refl z in
       on (ltb j (length (s .clients)))
       (λ b. clear-told (stand j (ltb-true j (length (s .clients)) b)) (t .0) (not-true (client s j .slot) (t .1 .0)) .1)
       (λ b. let w = rw (past j b) at (t .0) in clash (cc))
 
   -- and an accepted combiner_recv its request: the client at the cursor is not with the combiner yet
-  pub gather-asked : first (slotTests (client s (s .len))) ≡ 0 → client s (s .len) .asked ≡ true
-  gather-asked z =
+  pub combiner-recv-asked : first (slotTests (client s (s .len))) ≡ 0 → client s (s .len) .asked ≡ true
+  combiner-recv-asked z =
       let j = s .len in
       let t = all-first (slotTests (client s j)) refl z in
       on (ltb j (length (s .clients)))

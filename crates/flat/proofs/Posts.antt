@@ -1,5 +1,4 @@
--- Of a sound state an accepted step is the source's transition, to what the state after it stands for and to no other; it logs what the source hands
--- out, and its deposits and withdrawals are safe. Assumes nothing.
+-- What an accepted step does in the source: where it leads, to no other state, what it hands out, and that its deposits and withdrawals are safe. Assumes nothing.
 use Prim.Native.Nat.{ℕ, _<_}
 use mathlib.Core.Path.{_≡_, refl, sym, ap, _∙_}
 use mathlib.Core.Bool.{Bool, true, false}
@@ -214,7 +213,7 @@ responding-one : (m : FlatCombiner) (es fs : List (Option ℕ)) (i j : ℕ) → 
 responding-one m es fs i j p q = (cc, cc)
 
 recv-one : (m p : FlatCombiner) (t : Safe m source.combiner-recv) → source.Combiner-recv m p
-    → p ≡ source.with m (m .clients) (m .slots) (Collecting (t .0 ++ (some (t .1 .rid) ∷ []))) (without (length (t .0)) (m .requests)) (m .responses)
+    → p ≡ source.with-parts m (m .clients) (m .slots) (Collecting (t .0 ++ (some (t .1 .rid) ∷ []))) (without (length (t .0)) (m .requests)) (m .responses)
 recv-one m p t v =
     let e = collecting-one m (v .elems) (t .0) (v .require) (t .2) in
     let r = v .withdraws (t .1) (rw e (t .3)) in

@@ -1,4 +1,4 @@
--- Each public function's promise settles its answer: two answers that meet it are equal. Assumes nothing.
+-- Each contract settles its answer: two answers that meet a function's promise are equal, and so are the bytes that they leave. Assumes nothing.
 use mathlib.Core.Path.{_≡_}
 use mathlib.Core.Bool.{Bool}
 use mathlib.Core.List.{List}
@@ -21,6 +21,8 @@ use Rattle.flat.specs.declared.client.ClientMoved.{ClientMoved}
 use Rattle.flat.specs.declared.combiner.Gathered.{Gathered}
 use Rattle.flat.specs.declared.single.Answer.{Answer}
 
+-- ---------- state and sound
+
 pub fresh-settled : (clients : ℕ) {r q : Made} → r ≡ freshOf clients → q ≡ freshOf clients → r ≡ q
 fresh-settled clients = settled
 
@@ -30,12 +32,9 @@ is-sound-settled s = settled
 pub image-settled : (s : State) {l : List ℕ} {r q : ℕ} {l′ m : List ℕ} → Laid l 0 (imageBytes s) r l′ → Laid l 0 (imageBytes s) q m → (r ≡ q) × (l′ ≡ m)
 image-settled s = laid-settled
 
-pub put-entry-settled : (j rid resp : ℕ) {l : List ℕ} {at r q : ℕ} {l′ m : List ℕ} → Laid l at (entryBytes (entry.Answer j rid resp)) r l′
-    → Laid l at (entryBytes (entry.Answer j rid resp)) q m → (r ≡ q) × (l′ ≡ m)
-put-entry-settled j rid resp = laid-settled
+-- ---------- moves
 
--- ---------- the clients' transitions
-
+-- the clients'
 pub inside-settled : (count j : ℕ) {r q : ℕ} → r ≡ first (insideTests count j) → q ≡ first (insideTests count j) → r ≡ q
 inside-settled count j = settled
 
@@ -45,8 +44,7 @@ client-send-settled c rid req = settled
 pub client-recv-settled : (c : Client) {r q : ClientMoved} → r ≡ receivedClient c → q ≡ receivedClient c → r ≡ q
 client-recv-settled c = settled
 
--- ---------- the combiner's transitions
-
+-- the combiner's
 module _ (responding : Bool) (at count : ℕ) {r q : ℕ} where
   pub may-gather-settled : r ≡ first (gatherTests responding at count) → q ≡ first (gatherTests responding at count) → r ≡ q
   may-gather-settled = settled
@@ -72,7 +70,13 @@ combiner-send-settled c e rid resp = settled
 pub may-skip-settled : (e : Elem) {r q : ℕ} → r ≡ first (skipTests e) → q ≡ first (skipTests e) → r ≡ q
 may-skip-settled e = settled
 
--- ---------- the single step: its answer, and the log
+-- ---------- entry
+
+pub put-entry-settled : (j rid resp : ℕ) {l : List ℕ} {at r q : ℕ} {l′ m : List ℕ} → Laid l at (entryBytes (entry.Answer j rid resp)) r l′
+    → Laid l at (entryBytes (entry.Answer j rid resp)) q m → (r ≡ q) × (l′ ≡ m)
+put-entry-settled j rid resp = laid-settled
+
+-- ---------- single
 
 pub single-settled : (s : State) (x : Step) (l : List ℕ) {r q : Answer} {l′ m : List ℕ} → Singled s x l r l′ → Singled s x l q m → (r ≡ q) × (l′ ≡ m)
 single-settled s x l a b = (settled (a .answer) (b .answer), settled (a .log) (b .log))

@@ -10,6 +10,7 @@ use lib.Dec.{ltb}
 use lib.ListN.{length}
 use borrow.Author.Tests.{ltb-true, lt-ltb, ltb-false, le-ltb}
 use Rattle.rows.proofs.Cases.{on}
+use Rattle.rows.proofs.Rows.{getD-replicate}
 use Rattle.schedule.specs.Limits as limit
 use Rattle.flat.specs.Source as source
 use Rattle.flat.specs.Invariants.{Invariants, holds-rid, request-stored, response-stored, combiner-has}
@@ -22,7 +23,8 @@ use Rattle.flat.proofs.Stages.{Has, rests, Mode, collects, Stages, coll
 use Rattle.flat.proofs.Tests.{sound-stages, stages-sound}
 use Rattle.flat.proofs.Flags.{Flags, has-free, has-one, free-none, stand-flags, stand-zeros, flags-stand}
 use Rattle.flat.proofs.Values.{given-some, given-none, of-idle, of-waits}
-use Rattle.flat.proofs.Unused.{getD-fresh, fresh-clients, fresh-elems}
+use Rattle.flat.proofs.Maps.{same-machine}
+use Rattle.flat.proofs.Unused.{fresh-clients, fresh-elems}
 use Rattle.flat.proofs.Elems.{holds-has, has-holds, mode-sized, sized-mode}
 
 -- ---------- from the stages to the source's invariants
@@ -162,14 +164,24 @@ means-sound s h = stages-sound s (means-stages s h)
 
 -- ---------- the fresh machine
 
+-- every client of it is idle
+pub fresh-initialize : (n : ℕ) → abs (freshState n) ≡ source.initialize n
+fresh-initialize n = same-machine refl (λ i. rw (idle i)) (λ i. rw (idle i)) refl (λ i. rw (idle i)) (λ i. rw (idle i))
+  where
+    idle : (i : ℕ) → client (freshState n) i ≡ zeroClient
+    idle i = getD-replicate limit.clients i zeroClient
+
 module _ (n : ℕ) (b : n ≤ limit.clients) where
   pub fresh-stages : Stages (freshState n)
   fresh-stages =
       record {
         rows = record { few = b; clients = fresh-clients n; elems = fresh-elems };
         mode = collects refl refl (omega arith);
-        stand = λ j. rests (getD-fresh limit.clients j zeroClient) (λ x y. absurd (omega arith));
+        stand = λ j. rests (getD-replicate limit.clients j zeroClient) (λ x y. absurd (omega arith));
       }
+
+  pub fresh-means : Sound (freshState n)
+  fresh-means = stages-mean (freshState n) fresh-stages
 
   pub fresh-sound : sound (freshState n) ≡ true
   fresh-sound = stages-sound (freshState n) fresh-stages

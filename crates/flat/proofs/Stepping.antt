@@ -22,20 +22,20 @@ use Rattle.flat.specs.declared.entry.Entry.{Entry}
 use Rattle.flat.specs.declared.entry.Entry.the-variants as entry
 use Rattle.flat.specs.declared.client.ClientMoved.{ClientMoved}
 use Rattle.flat.specs.declared.single.Answer.{Answer}
-use Rattle.flat.proofs.Arms.{stopped, recv-fair}
+use Rattle.flat.proofs.Arms.{stopped, client-recv-fair}
 
 module _ (s : State) (j : ℕ) (l : List ℕ) (r : Answer) (room : limit.entry ≤ length l) (safe : sound s ≡ true) (a : ℕ)
     (p : a ≡ first (insideTests (s .count) j)) where
-  pub recv-stopped : (a ≡ 0 → ⊥) → r ≡ answer s 0 a → Applied s (ClientRecv j) l r l
-  recv-stopped n = refused stepper s (ClientRecv j) l r room safe a (sym (stopped s (ClientRecv j) a p n)) n
+  pub client-recv-stopped : (a ≡ 0 → ⊥) → r ≡ answer s 0 a → Applied s (ClientRecv j) l r l
+  client-recv-stopped n = refused stepper s (ClientRecv j) l r room safe a (sym (stopped s (ClientRecv j) a p n)) n
 
   module _ (z : a ≡ 0) (m : ClientMoved) (e : m ≡ receivedClient (client s j)) where
-    pub recv-refused : (m .code ≡ 0 → ⊥) → r ≡ answer s 0 (m .code) → Applied s (ClientRecv j) l r l
-    recv-refused = fair-refused stepper s (ClientRecv j) l r room safe (m .code) _ (recv-fair s j a p z m safe e)
+    pub client-recv-refused : (m .code ≡ 0 → ⊥) → r ≡ answer s 0 (m .code) → Applied s (ClientRecv j) l r l
+    client-recv-refused = fair-refused stepper s (ClientRecv j) l r room safe (m .code) _ (client-recv-fair s j a p z m safe e)
 
-    pub receives : m .code ≡ 0 → (n : ℕ) (l′ : List ℕ) → Laid l 0 (entryBytes (entry.Answer j (client s j .rid) (client s j .resp))) n l′
+    pub client-recv-accepted : m .code ≡ 0 → (n : ℕ) (l′ : List ℕ) → Laid l 0 (entryBytes (entry.Answer j (client s j .rid) (client s j .resp))) n l′
         → r ≡ answer (withClient s j (m .client)) n (m .code) → Applied s (ClientRecv j) l r l′
-    receives y n l′ k =
+    client-recv-accepted y n l′ k =
         let said : Entry = entry.Answer j (client s j .rid) (client s j .resp) in
         let one : pieces entryBytes (said ∷ []) ≡ entryBytes said = append-nil (entryBytes said) in
-        fair-accepted stepper s (ClientRecv j) l r room safe (m .code) _ (recv-fair s j a p z m safe e) y n l′ (omega arith) (rw one k)
+        fair-accepted stepper s (ClientRecv j) l r room safe (m .code) _ (client-recv-fair s j a p z m safe e) y n l′ (omega arith) (rw one k)

@@ -15,7 +15,8 @@ use Rattle.flat.specs.Sound.{combinerSound, elemSound, heldFrom, isGathe
 use Rattle.flat.specs.declared.state.Client.{Client}
 use Rattle.flat.specs.declared.state.Elem.{Elem}
 use Rattle.flat.specs.declared.state.State.{State}
-use Rattle.flat.proofs.Stages.{asking, held, answered, FreeAt, HasAt, Stand, rests, asks, isHeld, isTold, Mode, collects, responds, Stages, same-elem, same-client}
+use Rattle.flat.proofs.Stages.{asking, held, answered, FreeAt, HasAt, Stand, rests, asks, isHeld, isTold}
+use Rattle.flat.proofs.Stages.{Mode, collects, responds, Stages, same-elem, same-client}
 
 -- ---------- the combiner
 

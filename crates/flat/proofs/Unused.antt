@@ -1,14 +1,15 @@
 -- Every accepted step leaves the rows whole and unused entries zero. Assumes nothing.
-use Prim.Native.Nat.{ℕ, zero, suc, _+_, _<_}
+use Prim.Native.Nat.{ℕ, _+_, _<_}
 use mathlib.Core.Path.{_≡_, refl, ap}
 use mathlib.Core.Bool.{true, false}
 use mathlib.Core.List.{List}
 use native.Mathlib.Omega.{arith}
 use lib.Dec.{ltb}
-use lib.ListN.{length, getD, set, replicate, length-replicate, length-set}
+use lib.ListN.{length, set, replicate, length-replicate, length-set}
 use lib.Seq.{getD-set-other}
 use borrow.Author.Tests.{ltb-true}
 use Rattle.rows.proofs.Cases.{clash}
+use Rattle.rows.proofs.Rows.{getD-replicate}
 use Rattle.rows.proofs.Row.{row-case}
 use Rattle.machine.specs.Machine.{Accepted}
 use Rattle.schedule.specs.Limits as limit
@@ -21,20 +22,15 @@ use Rattle.flat.specs.declared.state.Elem.{Elem}
 use Rattle.flat.specs.declared.state.State.{State}
 use Rattle.flat.proofs.Stages.{ClientRow, ElemRow, Rows}
 
-pub getD-fresh : {A : Type 0} (n j : ℕ) (a : A) → getD (replicate n a) j a ≡ a
-getD-fresh zero j a = refl
-getD-fresh (suc n) zero a = refl
-getD-fresh (suc n) (suc j) a = getD-fresh n j a
-
 pub fresh-clients : (count : ℕ) → ClientRow count (replicate limit.clients zeroClient)
-fresh-clients count = record { whole = length-replicate limit.clients zeroClient; unused = λ j h. getD-fresh limit.clients j zeroClient }
+fresh-clients count = record { whole = length-replicate limit.clients zeroClient; unused = λ j h. getD-replicate limit.clients j zeroClient }
 
 pub fresh-elems : ElemRow 0 (replicate limit.clients zeroElem)
 fresh-elems =
     record {
       whole = length-replicate limit.clients zeroElem;
-      unused = λ j h. getD-fresh limit.clients j zeroElem;
-      no-id = λ j h. ap (λ (e : Elem). e .rid) (getD-fresh limit.clients j zeroElem);
+      unused = λ j h. getD-replicate limit.clients j zeroElem;
+      no-id = λ j h. ap (λ (e : Elem). e .rid) (getD-replicate limit.clients j zeroElem);
     }
 
 set-client : (count k : ℕ) (cs : List Client) (c : Client) → k < count → ClientRow count cs → ClientRow count (set cs k c)

@@ -3,17 +3,22 @@ use mathlib.Core.Path.{_≡_, refl, _∙_}
 use mathlib.Core.Bool.{Bool, cond}
 use mathlib.Core.List.{List, [], _∷_, _++_}
 use Prim.Native.Nat.{ℕ, _+_, _-_, _*_, _≤_, _<_}
+use native.Mathlib.Nat.{mul-le-mul-right}
 use native.Mathlib.Omega.{arith}
 use mir.Val.{boolByte}
-use lib.ListN.{length, set, take, length-set, length-append}
+use lib.ListN.{length, set, take, length-set, length-append, length-take}
 use Rattle.rows.specs.Bytes.{big}
 use Rattle.rows.specs.Mask.{mask}
 use Rattle.rows.specs.Stores.{Laid}
 use Rattle.rows.specs.Walk.{pieces}
 use Rattle.rows.proofs.Laying.{pieces-long}
+use Rattle.rows.proofs.Walks.{at-most, pieces-even}
 use Rattle.rows.proofs.Stores.{none-laid, laid-whole, laid-then, laid-length, stores-then}
 use Rattle.schedule.specs.Limits as limit
-use Rattle.flat.specs.Flat.{zeroClient, zeroElem}
+use Rattle.schedule.specs.declared.steps.FlatStep.{FlatStep}
+use Rattle.schedule.specs.declared.steps.FlatStep.the-variants.{ClientSend, ClientRecv, CombinerRecv, CombinerSkip, CombinerGoToResponding}
+use Rattle.schedule.specs.declared.steps.FlatStep.the-variants.{CombinerSend, CombinerSendSkip, CombinerGoToCollecting}
+use Rattle.flat.specs.Flat.{zeroClient, zeroElem, logs}
 use Rattle.flat.specs.Image.{entryBytes, messageBytes, clientBytes, elemBytes, slotOf, combinerBytes, inUse, imageBytes}
 use Rattle.flat.specs.declared.state.Client.{Client}
 use Rattle.flat.specs.declared.state.Elem.{Elem}
@@ -35,6 +40,17 @@ module _ (l : List ℕ) (at j rid resp : ℕ) where
 
     pub entry-length : length l′ ≡ length l
     entry-length = laid-length k o (big 4 resp) r l′ load ∙ laid-length _ (at + 1 + 1) (big 4 rid) o k id ∙ simp length-set
+
+-- a step logs one entry at most
+pub logs-short : (s : State) (x : FlatStep) → length (pieces entryBytes (logs s x)) ≤ limit.entry
+logs-short s (ClientSend j rid req) = omega arith
+logs-short s (ClientRecv j) = omega arith
+logs-short s CombinerRecv = omega arith
+logs-short s CombinerSkip = omega arith
+logs-short s CombinerGoToResponding = omega arith
+logs-short s (CombinerSend rid resp) = omega arith
+logs-short s CombinerSendSkip = omega arith
+logs-short s CombinerGoToCollecting = omega arith
 
 -- ---------- a client, an element, the combiner
 
@@ -148,3 +164,28 @@ module _ (s : State) (l : List ℕ) (n g : ℕ) (used : n ≡ inUse (s .count)) 
           let inner : a + length (combinerBytes s ++ elemsBytes) ≤ length k = omega (arith, behind, elems-length, length-append (combinerBytes s) elemsBytes) in
           let rest = laid-then k a (combinerBytes s) elemsBytes b m r l′ inner combiner elems in
           rw (← whole) (laid-then l 0 clientsBytes (combinerBytes s ++ elemsBytes) a k r l′ (omega arith) clients rest)
+
+-- ---------- the image of any state fits
+
+-- of a row, no more are in use than there are
+used-small : (n : ℕ) → inUse n ≤ limit.clients
+used-small n = at-most limit.clients n
+
+-- the entries of a row that are in use, each of k bytes
+row-small : {A : Type 0} (f : A → List ℕ) (k : ℕ) → ((x : A) → length (f x) ≡ k) → (n : ℕ) (xs : List A)
+    → length (pieces f (take (inUse n) xs)) ≤ limit.clients * k
+row-small f k even n xs =
+    let few : length (take (inUse n) xs) ≤ limit.clients = simp length-take (omega (arith, used-small n)) in
+    rw (pieces-even f k even (take (inUse n) xs)) (mul-le-mul-right k few)
+
+pub image-small : (s : State) → length (imageBytes s) ≤ limit.image
+image-small s =
+    let clients = pieces clientBytes (take (inUse (s .count)) (s .clients)) in
+    let elems = pieces elemBytes (take (inUse (s .len)) (s .elems)) in
+    omega (
+      arith,
+      row-small clientBytes _ (λ c. refl) (s .count) (s .clients),
+      row-small elemBytes _ (λ e. refl) (s .len) (s .elems),
+      length-append clients (combinerBytes s ++ elems),
+      length-append (combinerBytes s) elems,
+    )

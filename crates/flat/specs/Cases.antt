@@ -9,7 +9,7 @@ use Rattle.machine.specs.Table.{Case, runs, does, refuses, Start, starts, allRi
 use Rattle.schedule.specs.Limits as limit
 use Rattle.schedule.specs.declared.steps.FlatStep.the-variants.{ClientSend, ClientRecv, CombinerRecv, CombinerSkip, CombinerGoToResponding}
 use Rattle.schedule.specs.declared.steps.FlatStep.the-variants.{CombinerSend, CombinerSendSkip, CombinerGoToCollecting}
-use Rattle.flat.specs.Flat.{flat, zeroClient, zeroElem, freshOf}
+use Rattle.flat.specs.Flat.{flat, freshOf}
 use Rattle.flat.specs.Sound.{sound}
 use Rattle.flat.specs.Image.{imageBytes, entryBytes}
 use Rattle.flat.specs.declared.state.Client.{Client}
@@ -31,29 +31,32 @@ abbrev answered : ℕ → ℕ → Client
 answered rid resp = record { rid = rid; req = 0; resp = resp; waiting = true; asked = false; told = true; slot = false }
 
 abbrev idle : Client
-idle = zeroClient
+idle = record { rid = 0; req = 0; resp = 0; waiting = false; asked = false; told = false; slot = false }
 
 abbrev holds : ℕ → Elem
 holds rid = record { rid = rid; present = true }
 
 abbrev nothing : Elem
-nothing = zeroElem
+nothing = record { rid = 0; present = false }
 
 abbrev row : {A : Type 0} → A → List A → List A
 row z l = take limit.clients (l ++ replicate limit.clients z)
 
-abbrev machine : List Client → List Elem → ℕ → Bool → State
-machine cs es idx responding =
-    record { clients = row zeroClient cs; elems = row zeroElem es; count = length cs; len = length es; idx = idx; responding = responding }
+abbrev standing : List Client → List Elem → ℕ → Bool → State
+standing cs es idx responding =
+    record { clients = row idle cs; elems = row nothing es; count = length cs; len = length es; idx = idx; responding = responding }
 
 abbrev collecting : List Client → List Elem → State
-collecting cs es = machine cs es 0 false
+collecting cs es = standing cs es 0 false
 
 abbrev responding : List Client → List Elem → ℕ → State
-responding cs es idx = machine cs es idx true
+responding cs es idx = standing cs es idx true
 
-abbrev fresh : ℕ → State
-fresh n = freshOf n .state
+abbrev freshCode : ℕ → ℕ
+freshCode n = freshOf n .code
+
+abbrev freshMade : ℕ → State
+freshMade n = freshOf n .state
 
 -- ---------- the bytes: of small numbers, and of 01020304 and 05060708
 
@@ -89,7 +92,7 @@ widerBytes = 5 ∷ 6 ∷ 7 ∷ 8 ∷ []
 
 -- ---------- the table
 
-abbrev clientSends : List (Case flat)
+abbrev pub clientSends : List (Case flat)
 clientSends =
     -- client_send stores the request and sets the slot; it needs a client that is there, and that idle
     does (collecting (idle ∷ []) []) (ClientSend 0 wide wider)
@@ -107,7 +110,7 @@ clientSends =
     ∷ refuses (collecting (answered 7 99 ∷ []) []) (ClientSend 0 8 43) 12 (answeredBytes 7 99 ++ zeros 5)
     ∷ []
 
-abbrev clientRecvs : List (Case flat)
+abbrev pub clientRecvs : List (Case flat)
 clientRecvs =
     -- client_recv empties the response and logs client, rid, resp; it needs a client that is there, that waits, and its slot clear (14: P5)
     does (collecting (answered wide wider ∷ []) []) (ClientRecv 0) (zeros 28) (9 ∷ 0 ∷ wideBytes ++ widerBytes)
@@ -121,7 +124,7 @@ clientRecvs =
     ∷ refuses (collecting (gathered 7 ∷ []) (holds 7 ∷ [])) (ClientRecv 0) 14 (gatheredBytes 7 ++ (0 ∷ 1 ∷ 0 ∷ 0 ∷ 1 ∷ 1 ∷ four 7))
     ∷ []
 
-abbrev combinerGathers : List (Case flat)
+abbrev pub combinerGathers : List (Case flat)
 combinerGathers =
     -- combiner_recv takes the request, leaves the slot set and keeps the id; it needs to collect, a client left, and its slot set
     does (collecting (asks wide wider ∷ []) []) CombinerRecv (1 ∷ wideBytes ++ (zeros 18 ++ (0 ∷ 1 ∷ 0 ∷ 0 ∷ 1 ∷ 1 ∷ wideBytes))) []
@@ -144,7 +147,7 @@ combinerGathers =
     ∷ refuses (collecting (idle ∷ idle ∷ []) (nothing ∷ [])) CombinerGoToResponding 13 (zeros 50 ++ (1 ∷ zeros 5))
     ∷ []
 
-abbrev combinerResponds : List (Case flat)
+abbrev pub combinerResponds : List (Case flat)
 combinerResponds =
     -- combiner_send stores the response, clears the slot and goes on to the next client; it needs to respond, a client left, and that very id
     does (responding (gathered wide ∷ []) (holds wide ∷ []) 0) (CombinerSend wide wider)
@@ -168,37 +171,37 @@ combinerResponds =
     ∷ refuses (responding (idle ∷ idle ∷ []) (nothing ∷ nothing ∷ []) 1) CombinerGoToCollecting 13 (zeros 48 ++ (1 ∷ 1 ∷ 2 ∷ zeros 10))
     ∷ []
 
-abbrev wholeRuns : List (Case flat)
+abbrev pub wholeRuns : List (Case flat)
 wholeRuns =
     -- P1: of 0 clients both go_to steps are accepted, and combiner_skip is 13
-    runs (fresh 0) (CombinerGoToResponding ∷ CombinerGoToCollecting ∷ CombinerSkip ∷ []) 13 2 (zeros 5) []
+    runs (freshMade 0) (CombinerGoToResponding ∷ CombinerGoToCollecting ∷ CombinerSkip ∷ []) 13 2 (zeros 5) []
     -- P3, the state being 25 zeros and then 01 01 01 01 00 00 00 07
-    ∷ runs (fresh 1)
+    ∷ runs (freshMade 1)
     (ClientSend 0 7 42 ∷ CombinerRecv ∷ CombinerGoToResponding ∷ CombinerSend 7 99 ∷ ClientRecv 0 ∷ []) 0 5
     (zeros 25 ++ (1 ∷ 1 ∷ 1 ∷ 1 ∷ 0 ∷ 0 ∷ 0 ∷ 7 ∷ [])) (9 ∷ 0 ∷ 0 ∷ 0 ∷ 0 ∷ 7 ∷ 0 ∷ 0 ∷ 0 ∷ 99 ∷ [])
     -- P4, P5, and P6: P3's fourth step with rid 8
-    ∷ runs (fresh 1) (ClientSend 0 7 42 ∷ CombinerSkip ∷ []) 0 2 (askBytes 7 42 ++ (0 ∷ 1 ∷ 0 ∷ 0 ∷ 1 ∷ zeros 5)) []
-    ∷ runs (fresh 1) (ClientSend 0 7 42 ∷ ClientRecv 0 ∷ []) 14 1 (askBytes 7 42 ++ (0 ∷ 1 ∷ zeros 3)) []
-    ∷ runs (fresh 1)
+    ∷ runs (freshMade 1) (ClientSend 0 7 42 ∷ CombinerSkip ∷ []) 0 2 (askBytes 7 42 ++ (0 ∷ 1 ∷ 0 ∷ 0 ∷ 1 ∷ zeros 5)) []
+    ∷ runs (freshMade 1) (ClientSend 0 7 42 ∷ ClientRecv 0 ∷ []) 14 1 (askBytes 7 42 ++ (0 ∷ 1 ∷ zeros 3)) []
+    ∷ runs (freshMade 1)
     (ClientSend 0 7 42 ∷ CombinerRecv ∷ CombinerGoToResponding ∷ CombinerSend 8 99 ∷ ClientRecv 0 ∷ []) 15 3
     (gatheredBytes 7 ++ (0 ∷ 1 ∷ 1 ∷ 0 ∷ 1 ∷ 1 ∷ four 7)) []
     -- two rounds: a request that was skipped is served in the next one
-    ∷ runs (fresh 1)
+    ∷ runs (freshMade 1)
     (ClientSend 0 7 42 ∷ CombinerSkip ∷ CombinerGoToResponding ∷ CombinerSendSkip ∷ CombinerGoToCollecting
     ∷ CombinerRecv ∷ CombinerGoToResponding ∷ CombinerSend 7 99 ∷ ClientRecv 0 ∷ CombinerGoToCollecting ∷ []) 0 10
     (zeros 28) (9 ∷ 0 ∷ four 7 ++ four 99)
     -- two clients with one id: turns, and not ids, match answers to requests
-    ∷ runs (fresh 2)
+    ∷ runs (freshMade 2)
     (ClientSend 1 7 2 ∷ ClientSend 0 7 1 ∷ CombinerRecv ∷ CombinerRecv ∷ CombinerGoToResponding ∷ CombinerSend 7 10 ∷ CombinerSend 7 20
     ∷ CombinerGoToCollecting ∷ ClientRecv 1 ∷ ClientRecv 0 ∷ []) 0 10
     (zeros 51) (9 ∷ 1 ∷ four 7 ++ (four 20 ++ (9 ∷ 0 ∷ four 7 ++ four 10)))
     -- a round of 16 clients who ask nothing
-    ∷ runs (fresh 16) (replicate 16 CombinerSkip ++ (CombinerGoToResponding ∷ replicate 16 CombinerSendSkip ++ (CombinerGoToCollecting ∷ []))) 0 34 (zeros 373) []
+    ∷ runs (freshMade 16) (replicate 16 CombinerSkip ++ (CombinerGoToResponding ∷ replicate 16 CombinerSendSkip ++ (CombinerGoToCollecting ∷ []))) 0 34 (zeros 373) []
     ∷ []
 
 -- a fresh machine of so many clients: its code, and the image of its state
-abbrev freshMachines : List (Start ℕ)
-freshMachines =
+abbrev pub freshCases : List (Start ℕ)
+freshCases =
     starts 0 0 (zeros 5)
     ∷ starts 1 0 (zeros 28)
     ∷ starts 2 0 (zeros 51)
@@ -209,8 +212,8 @@ freshMachines =
 
 -- rows with one thing wrong in each: the code, the place, the image, that the state is sound (a request is kept where none is asked, which no image shows),
 -- the log
-abbrev wrongs : List (Case flat)
-wrongs =
+abbrev pub wrongCases : List (Case flat)
+wrongCases =
     runs (collecting (answered 7 9 ∷ []) []) (ClientRecv 0 ∷ []) 12 1 (zeros 28) (9 ∷ 0 ∷ four 7 ++ four 9)
     ∷ runs (collecting (answered 7 9 ∷ []) []) (ClientRecv 0 ∷ []) 0 2 (zeros 28) (9 ∷ 0 ∷ four 7 ++ four 9)
     ∷ runs (collecting (answered 7 9 ∷ []) []) (ClientRecv 0 ∷ []) 0 1 (zeros 27) (9 ∷ 0 ∷ four 7 ++ four 9)
@@ -220,17 +223,15 @@ wrongs =
     ∷ []
 
 -- the code, the image
-abbrev wrongStarts : List (Start ℕ)
-wrongStarts = starts 1 5 (zeros 28) ∷ starts 1 0 (zeros 27) ∷ []
+abbrev pub wrongFresh : List (Start ℕ)
+wrongFresh = starts 1 5 (zeros 28) ∷ starts 1 0 (zeros 27) ∷ []
 
 -- ---------- every row is right, and every wrong one is not
 
-abbrev right : List (Case flat) → Bool
-right cs = allRight flat sound imageBytes entryBytes cs
-
 abbrev pub Tabled : Type 0
 Tabled =
-    (allStarted flat sound imageBytes entryBytes (λ n. freshOf n .code) (λ n. freshOf n .state) freshMachines
-    && (right clientSends && (right clientRecvs && (right combinerGathers && (right combinerResponds && (right wholeRuns
-    && (allWrong flat sound imageBytes entryBytes wrongs
-    && noneStarted flat sound imageBytes entryBytes (λ n. freshOf n .code) (λ n. freshOf n .state) wrongStarts))))))) ≡ true
+    (allStarted flat sound imageBytes entryBytes freshCode freshMade freshCases
+    && (allRight flat sound imageBytes entryBytes clientSends && (allRight flat sound imageBytes entryBytes clientRecvs
+    && (allRight flat sound imageBytes entryBytes combinerGathers && (allRight flat sound imageBytes entryBytes combinerResponds
+    && (allRight flat sound imageBytes entryBytes wholeRuns
+    && (allWrong flat sound imageBytes entryBytes wrongCases && noneStarted flat sound imageBytes entryBytes freshCode freshMade wrongFresh))))))) ≡ true

@@ -31,7 +31,7 @@ abbrev pub add : Bool → Message → List Message → List Message
 add true m l = l ++ m ∷ []
 add false m l = l
 
--- ---------- what a history says, oldest first
+-- ---------- what is counted: the messages of a history, oldest first
 
 -- the requests that client j sent
 abbrev pub addRequest : ℕ → FlatStep → List Message → List Message
@@ -105,6 +105,6 @@ pub record Demand (h : Hist) : Type 0 where
   pub after-request : (j : ℕ) → length (sends h j) ≤ length (requests h j)
   pub one-at-a-time : (j : ℕ) → length (requests h j) ≤ suc (length (answers h j))
 
--- after every accepted prefix from a fresh machine of any number of clients in its limits
+-- after every accepted prefix from a fresh machine
 abbrev pub Demanded : Type 0
 Demanded = (n : ℕ) → n ≤ limit.clients → (h : Hist) (s : State) → Run flat (freshState n) h s → Demand h

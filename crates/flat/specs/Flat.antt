@@ -75,29 +75,29 @@ elemTests e rid = need code.element (e .present) ∷ need code.element (eqb rid 
 abbrev pub skipTests : Elem → List Check
 skipTests e = need code.element (not (e .present)) ∷ []
 
-abbrev pub headTests : State → FlatStep → List Check
-headTests s (ClientSend j rid req) = insideTests (s .count) j
-headTests s (ClientRecv j) = insideTests (s .count) j
-headTests s CombinerRecv = gatherTests (s .responding) (s .len) (s .count)
-headTests s CombinerSkip = gatherTests (s .responding) (s .len) (s .count)
-headTests s CombinerGoToResponding = respondTests (s .responding) (s .len) (s .count)
-headTests s (CombinerSend rid resp) = answerTests (s .responding) (s .idx) (s .count)
-headTests s CombinerSendSkip = answerTests (s .responding) (s .idx) (s .count)
-headTests s CombinerGoToCollecting = collectTests (s .responding) (s .idx) (s .count)
+abbrev pub combinerTests : State → FlatStep → List Check
+combinerTests s (ClientSend j rid req) = insideTests (s .count) j
+combinerTests s (ClientRecv j) = insideTests (s .count) j
+combinerTests s CombinerRecv = gatherTests (s .responding) (s .len) (s .count)
+combinerTests s CombinerSkip = gatherTests (s .responding) (s .len) (s .count)
+combinerTests s CombinerGoToResponding = respondTests (s .responding) (s .len) (s .count)
+combinerTests s (CombinerSend rid resp) = answerTests (s .responding) (s .idx) (s .count)
+combinerTests s CombinerSendSkip = answerTests (s .responding) (s .idx) (s .count)
+combinerTests s CombinerGoToCollecting = collectTests (s .responding) (s .idx) (s .count)
 
 -- combiner_skip is allowed with the slot set
-abbrev pub recordTests : State → FlatStep → List Check
-recordTests s (ClientSend j rid req) = sendTests (client s j)
-recordTests s (ClientRecv j) = recvTests (client s j)
-recordTests s CombinerRecv = slotTests (client s (s .len))
-recordTests s CombinerSkip = []
-recordTests s CombinerGoToResponding = []
-recordTests s (CombinerSend rid resp) = elemTests (elem s (s .idx)) rid
-recordTests s CombinerSendSkip = skipTests (elem s (s .idx))
-recordTests s CombinerGoToCollecting = []
+abbrev pub clientTests : State → FlatStep → List Check
+clientTests s (ClientSend j rid req) = sendTests (client s j)
+clientTests s (ClientRecv j) = recvTests (client s j)
+clientTests s CombinerRecv = slotTests (client s (s .len))
+clientTests s CombinerSkip = []
+clientTests s CombinerGoToResponding = []
+clientTests s (CombinerSend rid resp) = elemTests (elem s (s .idx)) rid
+clientTests s CombinerSendSkip = skipTests (elem s (s .idx))
+clientTests s CombinerGoToCollecting = []
 
 abbrev pub tests : State → FlatStep → List Check
-tests s x = headTests s x ++ recordTests s x
+tests s x = combinerTests s x ++ clientTests s x
 
 -- ---------- the state after
 
@@ -117,28 +117,28 @@ keeping c = record { rid = c .rid; present = true }
 abbrev pub answering : Client → ℕ → Client
 answering c resp = record { rid = c .rid; req = c .req; resp = resp; waiting = c .waiting; asked = c .asked; told = true; slot = false }
 
-abbrev pub with : State → List Client → List Elem → ℕ → ℕ → Bool → State
-with s cs es l i m = record { clients = cs; elems = es; count = s .count; len = l; idx = i; responding = m }
+abbrev pub withParts : State → List Client → List Elem → ℕ → ℕ → Bool → State
+withParts s cs es l i m = record { clients = cs; elems = es; count = s .count; len = l; idx = i; responding = m }
 
 -- another client at j; one element more; the cursor at the next element
 abbrev pub withClient : State → ℕ → Client → State
-withClient s j c = with s (set (s .clients) j c) (s .elems) (s .len) (s .idx) (s .responding)
+withClient s j c = withParts s (set (s .clients) j c) (s .elems) (s .len) (s .idx) (s .responding)
 
 abbrev pub withElem : State → Elem → State
-withElem s e = with s (s .clients) (set (s .elems) (s .len) e) (s .len + 1) (s .idx) (s .responding)
+withElem s e = withParts s (s .clients) (set (s .elems) (s .len) e) (s .len + 1) (s .idx) (s .responding)
 
 abbrev pub withNext : State → State
-withNext s = with s (s .clients) (s .elems) (s .len) (s .idx + 1) (s .responding)
+withNext s = withParts s (s .clients) (s .elems) (s .len) (s .idx + 1) (s .responding)
 
 abbrev pub next : State → FlatStep → State
 next s (ClientSend j rid req) = withClient s j (sending (client s j) rid req)
 next s (ClientRecv j) = withClient s j (receiving (client s j))
 next s CombinerRecv = let c = client s (s .len) in withElem (withClient s (s .len) (gathering c)) (keeping c)
 next s CombinerSkip = withElem s zeroElem
-next s CombinerGoToResponding = with s (s .clients) (s .elems) (s .len) 0 true
+next s CombinerGoToResponding = withParts s (s .clients) (s .elems) (s .len) 0 true
 next s (CombinerSend rid resp) = withNext (withClient s (s .idx) (answering (client s (s .idx)) resp))
 next s CombinerSendSkip = withNext s
-next s CombinerGoToCollecting = with s (s .clients) (replicate limit.clients zeroElem) 0 0 false
+next s CombinerGoToCollecting = withParts s (s .clients) (replicate limit.clients zeroElem) 0 0 false
 
 -- client_recv logs client, rid, resp
 abbrev pub logs : State → FlatStep → List Entry

@@ -3,10 +3,9 @@ use Prim.Native.Nat.{ℕ}
 use mathlib.Core.Bool.{Bool, cond}
 use mathlib.Core.List.{List, [], _∷_, _++_}
 use mir.Val.{boolByte}
-use lib.Dec.{ltb}
 use lib.ListN.{take}
 use Rattle.rows.specs.Bytes.{big}
-use Rattle.rows.specs.Walk.{pieces}
+use Rattle.rows.specs.Walk.{pieces, atMost}
 use Rattle.rows.specs.Mask.{mask}
 use Rattle.schedule.specs.Limits as limit
 use Rattle.flat.specs.declared.state.Client.{Client}
@@ -37,9 +36,9 @@ slotOf c = c .slot
 abbrev pub combinerBytes : State → List ℕ
 combinerBytes s = big 2 (mask slotOf (s .clients)) ++ (boolByte (s .responding) ∷ s .idx ∷ s .len ∷ [])
 
--- the places of a row in use, in a made-up state no more than there are
+-- how many of the row are in use; in a made-up state no more than there are
 abbrev pub inUse : ℕ → ℕ
-inUse count = cond (ltb count limit.clients) count limit.clients
+inUse n = atMost limit.clients n
 
 abbrev pub imageBytes : State → List ℕ
 imageBytes s =

@@ -1,4 +1,4 @@
--- How a state stands for the source's, and what is proved of the two: proofs/Refines.antt and proofs/Sounds.antt. Assumes nothing.
+-- How a state stands for the source's, and what is proved of the two: proofs/Refines.antt. Assumes nothing.
 use Prim.Native.Nat.{ℕ, _≤_}
 use mathlib.Core.Path.{_≡_}
 use mathlib.Core.Bool.{Bool, true, false, cond}
@@ -6,7 +6,7 @@ use mathlib.Core.List.{List, [], _∷_, map}
 use mathlib.Core.Option.{Option, none, some}
 use lib.Dec.{ltb}
 use lib.ListN.{length, take}
-use Rattle.machine.specs.Sourced.{Sourced, Upholds}
+use Rattle.machine.specs.Sourced.{Sourced, Inductive, Upholds}
 use Rattle.schedule.specs.Limits as limit
 use Rattle.schedule.specs.declared.steps.FlatStep.{FlatStep}
 use Rattle.schedule.specs.declared.steps.FlatStep.the-variants.{ClientSend, ClientRecv, CombinerRecv, CombinerSkip, CombinerGoToResponding}
@@ -121,3 +121,6 @@ pub record Refines : Type 0 where
   pub means-sound : (s : State) → Sound s → sound s ≡ true
   -- of a sound state: a step is accepted exactly when it is enabled, and then does what the source says and leaves a sound state
   pub upholds : Upholds flatCombine Sound
+  -- the source's own proofs, over all of its states: it starts with its invariants, and its transitions keep them
+  pub initial : (n : ℕ) → Invariants (source.initialize n)
+  pub inductive : Inductive flatCombine Invariants

@@ -34,8 +34,8 @@ pub record FlatCombiner : Type 0 where
   pub requests : Map Request
   pub responses : Map Response
 
-abbrev pub with : FlatCombiner → Map Client → Map Bool → Combiner → Map Request → Map Response → FlatCombiner
-with pre clients slots combiner requests responses =
+abbrev pub with-parts : FlatCombiner → Map Client → Map Bool → Combiner → Map Request → Map Response → FlatCombiner
+with-parts pre clients slots combiner requests responses =
     record { num-clients = pre .num-clients; clients = clients; slots = slots; combiner = combiner; requests = requests; responses = responses }
 
 abbrev pub initialize : ℕ → FlatCombiner
@@ -58,7 +58,7 @@ pub record Client-send (pre : FlatCombiner) (j : ℕ) (request : Request) (post 
   pub cur-slot : Bool
   pub removes-slot : pre .slots j ≡ some cur-slot
   pub update : post ≡
-      with pre (at-key j (Waiting (request .rid)) (pre .clients)) (at-key j true (pre .slots)) (pre .combiner)
+      with-parts pre (at-key j (Waiting (request .rid)) (pre .clients)) (at-key j true (pre .slots)) (pre .combiner)
       (at-key j request (pre .requests)) (pre .responses)
 
 pub record Client-recv (pre : FlatCombiner) (j : ℕ) (post : FlatCombiner) : Type 0 where
@@ -66,7 +66,7 @@ pub record Client-recv (pre : FlatCombiner) (j : ℕ) (post : FlatCombiner) : Ty
   pub rid : ℕ
   pub removes : pre .clients j ≡ some (Waiting rid)
   pub have : pre .slots j ≡ some false
-  pub update : post ≡ with pre (at-key j Idle (pre .clients)) (pre .slots) (pre .combiner) (pre .requests) (without j (pre .responses))
+  pub update : post ≡ with-parts pre (at-key j Idle (pre .clients)) (pre .slots) (pre .combiner) (pre .requests) (without j (pre .responses))
 
 -- ---------- combiner transitions
 
@@ -79,19 +79,19 @@ pub record Combiner-recv (pre post : FlatCombiner) : Type 0 where
   pub request : Request
   pub withdraws : (stored : Request) → pre .requests (length elems) ≡ some stored → request ≡ stored
   pub update : post ≡
-      with pre (pre .clients) (pre .slots) (Collecting (elems ++ (some (request .rid) ∷ []))) (without (length elems) (pre .requests)) (pre .responses)
+      with-parts pre (pre .clients) (pre .slots) (Collecting (elems ++ (some (request .rid) ∷ []))) (without (length elems) (pre .requests)) (pre .responses)
 
 pub record Combiner-skip (pre post : FlatCombiner) : Type 0 where
   pub elems : List (Option ℕ)
   pub require : pre .combiner ≡ Collecting elems
   pub require-left : length elems < pre .num-clients
-  pub update : post ≡ with pre (pre .clients) (pre .slots) (Collecting (elems ++ (none ∷ []))) (pre .requests) (pre .responses)
+  pub update : post ≡ with-parts pre (pre .clients) (pre .slots) (Collecting (elems ++ (none ∷ []))) (pre .requests) (pre .responses)
 
 pub record Combiner-go-to-responding (pre post : FlatCombiner) : Type 0 where
   pub elems : List (Option ℕ)
   pub require : pre .combiner ≡ Collecting elems
   pub require-full : length elems ≡ pre .num-clients
-  pub update : post ≡ with pre (pre .clients) (pre .slots) (Responding elems 0) (pre .requests) (pre .responses)
+  pub update : post ≡ with-parts pre (pre .clients) (pre .slots) (Responding elems 0) (pre .requests) (pre .responses)
 
 pub record Combiner-send (pre : FlatCombiner) (response : Response) (post : FlatCombiner) : Type 0 where
   pub elems : List (Option ℕ)
@@ -102,7 +102,7 @@ pub record Combiner-send (pre : FlatCombiner) (response : Response) (post : Flat
   pub cur-slot : Bool
   pub removes-slot : pre .slots j ≡ some cur-slot
   pub update : post ≡
-      with pre (pre .clients) (at-key j false (pre .slots)) (Responding elems (j + 1)) (pre .requests) (at-key j response (pre .responses))
+      with-parts pre (pre .clients) (at-key j false (pre .slots)) (Responding elems (j + 1)) (pre .requests) (at-key j response (pre .responses))
 
 pub record Combiner-send-skip (pre post : FlatCombiner) : Type 0 where
   pub elems : List (Option ℕ)
@@ -110,12 +110,12 @@ pub record Combiner-send-skip (pre post : FlatCombiner) : Type 0 where
   pub require : pre .combiner ≡ Responding elems j
   pub require-left : j < pre .num-clients
   pub require-none : getD elems j none ≡ none
-  pub update : post ≡ with pre (pre .clients) (pre .slots) (Responding elems (j + 1)) (pre .requests) (pre .responses)
+  pub update : post ≡ with-parts pre (pre .clients) (pre .slots) (Responding elems (j + 1)) (pre .requests) (pre .responses)
 
 pub record Combiner-go-to-collecting (pre post : FlatCombiner) : Type 0 where
   pub elems : List (Option ℕ)
   pub require : pre .combiner ≡ Responding elems (pre .num-clients)
-  pub update : post ≡ with pre (pre .clients) (pre .slots) (Collecting []) (pre .requests) (pre .responses)
+  pub update : post ≡ with-parts pre (pre .clients) (pre .slots) (Collecting []) (pre .requests) (pre .responses)
 
 pub data Transition : Type 0 where
   client-send : ℕ → Request → Transition

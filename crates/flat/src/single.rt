@@ -74,10 +74,10 @@ fn apply(s: State, x: FlatStep, log: &mut [u8]) -> Answer
         FlatStep::ClientRecv { j } => client_recv(s, j, log),
         FlatStep::CombinerRecv => combiner_recv(s),
         FlatStep::CombinerSkip => combiner_skip(s),
-        FlatStep::CombinerGoToResponding => go_to_responding(s),
+        FlatStep::CombinerGoToResponding => combiner_go_to_responding(s),
         FlatStep::CombinerSend { rid, resp } => combiner_send(s, rid, resp),
         FlatStep::CombinerSendSkip => combiner_send_skip(s),
-        FlatStep::CombinerGoToCollecting => go_to_collecting(s),
+        FlatStep::CombinerGoToCollecting => combiner_go_to_collecting(s),
     }
 }
 
@@ -158,7 +158,7 @@ fn combiner_skip(s: State) -> Answer
     quiet(after, codes::ACCEPTED)
 }
 
-fn go_to_responding(s: State) -> Answer
+fn combiner_go_to_responding(s: State) -> Answer
     ensures { λ r. ⌜ r ≡ quietly s CombinerGoToResponding ⌝ }
 {
     let a = combiner::may_respond(s.responding, s.len, s.count);
@@ -214,7 +214,7 @@ fn combiner_send_skip(s: State) -> Answer
     quiet(after, codes::ACCEPTED)
 }
 
-fn go_to_collecting(s: State) -> Answer
+fn combiner_go_to_collecting(s: State) -> Answer
     ensures { λ r. ⌜ r ≡ quietly s CombinerGoToCollecting ⌝ }
 {
     let a = combiner::may_collect(s.responding, s.idx, s.count);

@@ -91,8 +91,8 @@ fn idle(count: u8, code: u8) -> Made
 pub fn image(s: State, out: &mut [u8]) -> usize
     ensures { λ r. ⌜ Laid (now (out .entry)) 0 (imageBytes s) r (now (out .exit)) ⌝ }
 {
-    let n = places_used(s.count);
-    let g = places_used(s.len);
+    let n = in_use(s.count);
+    let g = in_use(s.len);
     if out.len() < 23 * n + 5 + 5 * g {
         return 0;
     }
@@ -101,8 +101,8 @@ pub fn image(s: State, out: &mut [u8]) -> usize
     put_elems(out, b, s, g)
 }
 
-// How many places of a row are in use: in a made-up state no more than there are.
-fn places_used(count: u8) -> usize
+// How many of the row are in use; in a made-up state no more than there are.
+fn in_use(count: u8) -> usize
     ensures { λ r. ⌜ r ≡ inUse count ⌝ }
     ensures { λ r. ⌜ r ≤ limit.clients ⌝ }
 {

@@ -19,7 +19,7 @@ use Rattle.schedule.specs.declared.steps.FlatStep.{FlatStep}
 use Rattle.schedule.specs.declared.steps.FlatStep.the-variants.{ClientSend, ClientRecv, CombinerRecv, CombinerSkip, CombinerGoToResponding}
 use Rattle.schedule.specs.declared.steps.FlatStep.the-variants.{CombinerSend, CombinerSendSkip, CombinerGoToCollecting}
 use Rattle.schedule.proofs.Running.{Runs, Out, ahead, stops, fair-quiet, fair-says}
-use Rattle.flat.specs.Flat.{flat, logs, with, withClient, withElem, withNext, zeroElem, client, elem}
+use Rattle.flat.specs.Flat.{flat, logs, withParts, withClient, withElem, withNext, zeroElem, client, elem}
 use Rattle.flat.specs.Flat.{insideTests, gatherTests, respondTests, answerTests, collectTests, skipTests}
 use Rattle.flat.specs.Moved.{sentClient, receivedClient, gatheredClient, answeredClient}
 use Rattle.flat.specs.Image.{entryBytes}
@@ -28,144 +28,147 @@ use Rattle.flat.specs.declared.state.State.{State}
 use Rattle.flat.specs.declared.client.ClientMoved.{ClientMoved}
 use Rattle.flat.specs.declared.combiner.Gathered.{Gathered}
 use Rattle.flat.specs.declared.entry.Entry.the-variants.{Answer}
-use Rattle.flat.proofs.Arms.{send-fair, recv-fair, gather-code, gather-fair, skip-fair, respond-fair, answer-code, answer-fair, pass-code, pass-fair, collect-fair}
+use Rattle.flat.proofs.Arms.{client-send-fair, client-recv-fair, combiner-recv-code, combiner-recv-fair, combiner-skip-fair, combiner-go-to-responding-fair}
+use Rattle.flat.proofs.Arms.{combiner-send-code, combiner-send-fair, combiner-send-skip-code, combiner-send-skip-fair, combiner-go-to-collecting-fair}
 use Rattle.flat.proofs.Sounds.{means-sound}
 use Rattle.flat_run.specs.Run.{runner}
 use Rattle.flat_run.proofs.Carried.{carries}
 
 module _ (f : List ℕ) (from n : ℕ) (q₀ : State) (log₀ : List ℕ) (used : ℕ) (log : List ℕ) (q : State) (at k w : ℕ)
     (g : Runs runner carries f from n q₀ log₀ used log q at k w) (h : k ≡ n → ⊥) (x : FlatStep) (r : x ≡ stepAt spelled.flat f at) where
-  -- the run ends before step k with this code; it goes on from q′ behind a step of so many bytes
-  abbrev Stops : ℕ → Type 0
-  Stops c = Out runner carries f from n q₀ log₀ used log q at k w g c
+  -- where the next turn starts: the log, the state, the places in the file and in the log
+  abbrev Then : List ℕ → State → ℕ → ℕ → Type 0
+  Then log′ q′ at′ w′ = Runs runner carries f from n q₀ log₀ used log′ q′ at′ (k + 1) w′
 
-  abbrev Goes : State → ℕ → Type 0
-  Goes q′ size = Runs runner carries f from n q₀ log₀ used log q′ (at + size) (k + 1) w
+  -- the run ends at this step, with its code
+  abbrev Refused : ℕ → Type 0
+  Refused c = Out runner carries f from n q₀ log₀ used log q at k w g c
 
   -- ---------- any step
 
   module _ (v : FlatStep) (e : x ≡ v) where
-    next : Fits w64 (at + sizeOf spelled.flat v)
-    next = ahead runner carries f from n q₀ log₀ used log q at k w g h x r v e
+    ahead-of : Fits w64 (at + sizeOf spelled.flat v)
+    ahead-of = ahead runner carries f from n q₀ log₀ used log q at k w g h x r v e
 
-    stop : (c : ℕ) → c ≡ codeOf flat q v → (c ≡ 0 → ⊥) → Stops c
-    stop = stops runner carries f from n q₀ log₀ used log q at k w g h x r v e
+    refused : (c : ℕ) → c ≡ codeOf flat q v → (c ≡ 0 → ⊥) → Refused c
+    refused = stops runner carries f from n q₀ log₀ used log q at k w g h x r v e
 
-    quietly : (a : ℕ) (t : State) → Fair flat q v a t → a ≡ 0 → logs q v ≡ [] → Goes t (sizeOf spelled.flat v)
-    quietly = fair-quiet runner carries f from n q₀ log₀ used log q at k w g h x r v e
+    quiet-turn : (a : ℕ) (t : State) → Fair flat q v a t → a ≡ 0 → logs q v ≡ [] → Then log t (at + sizeOf spelled.flat v) w
+    quiet-turn = fair-quiet runner carries f from n q₀ log₀ used log q at k w g h x r v e
 
   -- ---------- client_send
 
   module _ (j rid req : ℕ) (e : x ≡ ClientSend j rid req) where
-    pub send-next : Fits w64 (at + 11)
+    pub client-send-ahead : Fits w64 (at + 11)
     unfolding widthsOf widths
-    send-next = next (ClientSend j rid req) e
+    client-send-ahead = ahead-of (ClientSend j rid req) e
 
     module _ (a : ℕ) (p : a ≡ first (insideTests (q .count) j)) (z : a ≡ 0) (m : ClientMoved) (c : m ≡ sentClient (client q j) rid req) where
-      pub send-stop : (m .code ≡ 0 → ⊥) → Stops (m .code)
-      send-stop = stop (ClientSend j rid req) e (m .code) (send-fair q j a p z m rid req c .own)
+      pub client-send-refused : (m .code ≡ 0 → ⊥) → Refused (m .code)
+      client-send-refused = refused (ClientSend j rid req) e (m .code) (client-send-fair q j a p z m rid req c .own)
 
-      pub send-turn : m .code ≡ 0 → Goes (withClient q j (m .client)) 11
+      pub client-send-turn : m .code ≡ 0 → Then log (withClient q j (m .client)) (at + 11) w
       unfolding widthsOf widths
-      send-turn y = quietly (ClientSend j rid req) e (m .code) _ (send-fair q j a p z m rid req c) y refl
+      client-send-turn y = quiet-turn (ClientSend j rid req) e (m .code) _ (client-send-fair q j a p z m rid req c) y refl
 
   -- ---------- client_recv logs what the client had before it moved
 
   module _ (j : ℕ) (e : x ≡ ClientRecv j) where
-    pub recv-next : Fits w64 (at + 3)
+    pub client-recv-ahead : Fits w64 (at + 3)
     unfolding widthsOf widths
-    recv-next = next (ClientRecv j) e
+    client-recv-ahead = ahead-of (ClientRecv j) e
 
     module _ (a : ℕ) (p : a ≡ first (insideTests (q .count) j)) (z : a ≡ 0) (m : ClientMoved) (c : m ≡ receivedClient (client q j)) where
       moved : Fair flat q (ClientRecv j) (m .code) (withClient q j (m .client))
-      moved = recv-fair q j a p z m (means-sound q (g .good)) c
+      moved = client-recv-fair q j a p z m (means-sound q (g .good)) c
 
-      pub recv-stop : (m .code ≡ 0 → ⊥) → Stops (m .code)
-      recv-stop = stop (ClientRecv j) e (m .code) (moved .own)
+      pub client-recv-refused : (m .code ≡ 0 → ⊥) → Refused (m .code)
+      client-recv-refused = refused (ClientRecv j) e (m .code) (moved .own)
 
-      pub recv-turn : m .code ≡ 0 → (w′ : ℕ) (log′ : List ℕ) → Laid log w (entryBytes (Answer j (client q j .rid) (client q j .resp))) w′ log′
-          → Runs runner carries f from n q₀ log₀ used log′ (withClient q j (m .client)) (at + 3) (k + 1) w′
+      pub client-recv-turn : m .code ≡ 0 → (w′ : ℕ) (log′ : List ℕ) → Laid log w (entryBytes (Answer j (client q j .rid) (client q j .resp))) w′ log′
+          → Then log′ (withClient q j (m .client)) (at + 3) w′
       unfolding widthsOf widths
-      recv-turn y = fair-says runner carries f from n q₀ log₀ used log q at k w g h x r (ClientRecv j) e (m .code) _ moved y _ refl
+      client-recv-turn y = fair-says runner carries f from n q₀ log₀ used log q at k w g h x r (ClientRecv j) e (m .code) _ moved y _ refl
 
   -- ---------- combiner_recv
 
   module _ (e : x ≡ CombinerRecv) where
-    pub gather-next : Fits w64 (at + 2)
+    pub combiner-recv-ahead : Fits w64 (at + 2)
     unfolding widthsOf widths
-    gather-next = next CombinerRecv e
+    combiner-recv-ahead = ahead-of CombinerRecv e
 
     module _ (a : ℕ) (p : a ≡ first (gatherTests (q .responding) (q .len) (q .count))) (z : a ≡ 0) (m : Gathered)
         (c : m ≡ gatheredClient (client q (q .len))) where
-      pub gather-stop : (m .code ≡ 0 → ⊥) → Stops (m .code)
-      gather-stop = stop CombinerRecv e (m .code) (gather-code q a p z (means-sound q (g .good)) m c)
+      pub combiner-recv-refused : (m .code ≡ 0 → ⊥) → Refused (m .code)
+      combiner-recv-refused = refused CombinerRecv e (m .code) (combiner-recv-code q a p z (means-sound q (g .good)) m c)
 
-      pub gather-turn : m .code ≡ 0 → Goes (withElem (withClient q (q .len) (m .client)) (m .elem)) 2
+      pub combiner-recv-turn : m .code ≡ 0 → Then log (withElem (withClient q (q .len) (m .client)) (m .elem)) (at + 2) w
       unfolding widthsOf widths
-      gather-turn y = quietly CombinerRecv e 0 _ (gather-fair q a p z (means-sound q (g .good)) m c y) refl refl
+      combiner-recv-turn y = quiet-turn CombinerRecv e 0 _ (combiner-recv-fair q a p z (means-sound q (g .good)) m c y) refl refl
 
   -- ---------- combiner_skip
 
   module _ (e : x ≡ CombinerSkip) where
-    pub skip-next : Fits w64 (at + 2)
+    pub combiner-skip-ahead : Fits w64 (at + 2)
     unfolding widthsOf widths
-    skip-next = next CombinerSkip e
+    combiner-skip-ahead = ahead-of CombinerSkip e
 
-    pub skip-turn : (a : ℕ) → a ≡ first (gatherTests (q .responding) (q .len) (q .count)) → a ≡ 0 → (o : Elem) → o ≡ zeroElem → Goes (withElem q o) 2
+    pub combiner-skip-turn : (a : ℕ) → a ≡ first (gatherTests (q .responding) (q .len) (q .count)) → a ≡ 0 → (o : Elem) → o ≡ zeroElem
+        → Then log (withElem q o) (at + 2) w
     unfolding widthsOf widths
-    skip-turn a p z o c = quietly CombinerSkip e 0 _ (skip-fair q a p z o c) refl refl
+    combiner-skip-turn a p z o c = quiet-turn CombinerSkip e 0 _ (combiner-skip-fair q a p z o c) refl refl
 
   -- ---------- combiner_go_to_responding
 
   module _ (e : x ≡ CombinerGoToResponding) where
-    pub respond-next : Fits w64 (at + 2)
+    pub combiner-go-to-responding-ahead : Fits w64 (at + 2)
     unfolding widthsOf widths
-    respond-next = next CombinerGoToResponding e
+    combiner-go-to-responding-ahead = ahead-of CombinerGoToResponding e
 
-    pub respond-turn : (a : ℕ) → a ≡ first (respondTests (q .responding) (q .len) (q .count)) → a ≡ 0
-        → Goes (with q (q .clients) (q .elems) (q .len) 0 true) 2
+    pub combiner-go-to-responding-turn : (a : ℕ) → a ≡ first (respondTests (q .responding) (q .len) (q .count)) → a ≡ 0
+        → Then log (withParts q (q .clients) (q .elems) (q .len) 0 true) (at + 2) w
     unfolding widthsOf widths
-    respond-turn a p z = quietly CombinerGoToResponding e 0 _ (respond-fair q a p z) refl refl
+    combiner-go-to-responding-turn a p z = quiet-turn CombinerGoToResponding e 0 _ (combiner-go-to-responding-fair q a p z) refl refl
 
   -- ---------- combiner_send
 
   module _ (rid resp : ℕ) (e : x ≡ CombinerSend rid resp) where
-    pub answer-next : Fits w64 (at + 10)
+    pub combiner-send-ahead : Fits w64 (at + 10)
     unfolding widthsOf widths
-    answer-next = next (CombinerSend rid resp) e
+    combiner-send-ahead = ahead-of (CombinerSend rid resp) e
 
     module _ (a : ℕ) (p : a ≡ first (answerTests (q .responding) (q .idx) (q .count))) (z : a ≡ 0)
         (m : ClientMoved) (c : m ≡ answeredClient (client q (q .idx)) (elem q (q .idx)) rid resp) where
-      pub answer-stop : (m .code ≡ 0 → ⊥) → Stops (m .code)
-      answer-stop = stop (CombinerSend rid resp) e (m .code) (answer-code q a p z rid resp m c)
+      pub combiner-send-refused : (m .code ≡ 0 → ⊥) → Refused (m .code)
+      combiner-send-refused = refused (CombinerSend rid resp) e (m .code) (combiner-send-code q a p z rid resp m c)
 
-      pub answer-turn : m .code ≡ 0 → Goes (withNext (withClient q (q .idx) (m .client))) 10
+      pub combiner-send-turn : m .code ≡ 0 → Then log (withNext (withClient q (q .idx) (m .client))) (at + 10) w
       unfolding widthsOf widths
-      answer-turn y = quietly (CombinerSend rid resp) e 0 _ (answer-fair q a p z rid resp m c y) refl refl
+      combiner-send-turn y = quiet-turn (CombinerSend rid resp) e 0 _ (combiner-send-fair q a p z rid resp m c y) refl refl
 
   -- ---------- combiner_send_skip
 
   module _ (e : x ≡ CombinerSendSkip) where
-    pub pass-next : Fits w64 (at + 2)
+    pub combiner-send-skip-ahead : Fits w64 (at + 2)
     unfolding widthsOf widths
-    pass-next = next CombinerSendSkip e
+    combiner-send-skip-ahead = ahead-of CombinerSendSkip e
 
     module _ (a : ℕ) (p : a ≡ first (answerTests (q .responding) (q .idx) (q .count))) (z : a ≡ 0) (b : ℕ) (c : b ≡ first (skipTests (elem q (q .idx)))) where
-      pub pass-stop : (b ≡ 0 → ⊥) → Stops b
-      pass-stop = stop CombinerSendSkip e b (pass-code q a p z b c)
+      pub combiner-send-skip-refused : (b ≡ 0 → ⊥) → Refused b
+      combiner-send-skip-refused = refused CombinerSendSkip e b (combiner-send-skip-code q a p z b c)
 
-      pub pass-turn : b ≡ 0 → Goes (withNext q) 2
+      pub combiner-send-skip-turn : b ≡ 0 → Then log (withNext q) (at + 2) w
       unfolding widthsOf widths
-      pass-turn y = quietly CombinerSendSkip e 0 _ (pass-fair q a p z b c y) refl refl
+      combiner-send-skip-turn y = quiet-turn CombinerSendSkip e 0 _ (combiner-send-skip-fair q a p z b c y) refl refl
 
   -- ---------- combiner_go_to_collecting
 
   module _ (e : x ≡ CombinerGoToCollecting) where
-    pub collect-next : Fits w64 (at + 2)
+    pub combiner-go-to-collecting-ahead : Fits w64 (at + 2)
     unfolding widthsOf widths
-    collect-next = next CombinerGoToCollecting e
+    combiner-go-to-collecting-ahead = ahead-of CombinerGoToCollecting e
 
-    pub collect-turn : (a : ℕ) → a ≡ first (collectTests (q .responding) (q .idx) (q .count)) → a ≡ 0 → (o : Elem) → o ≡ zeroElem
-        → Goes (with q (q .clients) (replicate limit.clients o) 0 0 false) 2
+    pub combiner-go-to-collecting-turn : (a : ℕ) → a ≡ first (collectTests (q .responding) (q .idx) (q .count)) → a ≡ 0 → (o : Elem) → o ≡ zeroElem
+        → Then log (withParts q (q .clients) (replicate limit.clients o) 0 0 false) (at + 2) w
     unfolding widthsOf widths
-    collect-turn a p z o c = quietly CombinerGoToCollecting e 0 _ (collect-fair q a p z o c) refl refl
+    combiner-go-to-collecting-turn a p z o c = quiet-turn CombinerGoToCollecting e 0 _ (combiner-go-to-collecting-fair q a p z o c) refl refl

@@ -22,7 +22,7 @@ ghost use Rattle.schedule.specs.Widths as kind;
 ghost use Rattle.flat.specs.Refined.{Sound};
 ghost use Rattle.flat_run.specs.Run.{runner, leftBy, restOfFile};
 
-// What a run leaves: the state after the accepted steps, the step that stopped it or the number of steps, and how far the log is written.
+// What a run leaves: the state after the accepted steps, the index of the step that stopped it or the number of steps, and how far the log is written.
 pub struct Ran {
     pub state: State,
     pub place: usize,

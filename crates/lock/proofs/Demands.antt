@@ -9,19 +9,20 @@ use lib.Dec.{eqb}
 use borrow.Author.Tests.{eqb-true, ltb-true, not-true}
 use Rattle.rows.specs.Walk.{bit}
 use Rattle.rows.proofs.Cases.{on, clash, tick-bit}
+use Rattle.rows.proofs.Rows.{getD-replicate}
 use Rattle.machine.specs.Machine.{Accepted}
 use Rattle.machine.specs.History.{event, Run}
 use Rattle.machine.proofs.Runs.{always}
 use Rattle.schedule.specs.Limits as limit
 use Rattle.schedule.specs.declared.steps.LockStep.{LockStep}
 use Rattle.schedule.specs.declared.steps.LockStep.the-variants.{ExcStart, ExcCheckCount, ExcFinish, ExcRelease, SharedStart, SharedFinish, SharedRelease}
-use Rattle.lock.specs.Lock.{lock, freshState, cell, next}
-use Rattle.lock.specs.Demand.{Hist, sharedStarts, sharedReleases, handedOut, givenBack, taken, returned, ReaderAt, Writer, inForce, Demand, Demanded, CellsCounted}
+use Rattle.lock.specs.Lock.{lock, zeroCell, freshState, cell, next}
+use Rattle.lock.specs.Demand.{Hist, sharedStarts, sharedReleases, handedOut, givenBack, taken, returned, ReaderAt, Writer, inForce, Demand, Demanded, CellsCounted, GuardsCounted}
 use Rattle.lock.specs.declared.state.State.{State}
 use Rattle.lock.proofs.Filtered.{carrying, stands, carrying-none, carrying-more, carrying-down}
 use Rattle.lock.proofs.Phases.{unlocked-away, checking-stored}
 use Rattle.lock.proofs.Plain.{guards, Plain}
-use Rattle.lock.proofs.Sounds.{zero-at, fresh-plain}
+use Rattle.lock.proofs.Sounds.{fresh-plain}
 use Rattle.lock.proofs.Changed.{in-row, at-start, at-finish, at-release}
 use Rattle.lock.proofs.Kept.{plain-next}
 
@@ -164,8 +165,8 @@ module _ (w t₀ : ℕ) (low : 1 ≤ w) (high : w ≤ limit.width) where
       record {
         plain = fresh-plain w t₀ low high;
         store = λ e. refl;
-        cells = λ r. rw (zero-at limit.width r);
-        readers = λ r u. rw (carrying-none t₀ (guards (freshState w t₀ .cells)) r u (rw (zero-at limit.width r)));
+        cells = λ r. rw (getD-replicate limit.width r zeroCell);
+        readers = λ r u. rw (carrying-none t₀ (guards (freshState w t₀ .cells)) r u (rw (getD-replicate limit.width r zeroCell)));
         writers = refl;
       }
 
@@ -177,3 +178,6 @@ demanded w t₀ low high h s r = demand t₀ h s (run-inv w t₀ low high r)
 
 pub cells-counted : CellsCounted
 cells-counted w t₀ low high h s r = run-inv w t₀ low high r .cells
+
+pub guards-counted : GuardsCounted
+guards-counted w t₀ low high h s r = let i = run-inv w t₀ low high r in (i .readers, i .writers)

@@ -1,4 +1,4 @@
--- Of a sound state: a step is accepted exactly when it is enabled. Assumes nothing.
+-- Of a sound state, a step is accepted exactly when it is enabled: the source's transition leads somewhere, below the limit. Assumes nothing.
 use mathlib.Core.Path.{_≡_, refl}
 use mathlib.Core.Bool.{Bool, true, false, cond}
 use mathlib.Core.Option.{none, some}

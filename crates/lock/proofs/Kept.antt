@@ -37,10 +37,10 @@ module _ (cs : List Cell) where
   exc-start-stands (holding w) a = clash (cc (a .0))
 
   -- the cell at its cursor counts nobody, so no guard
-  exc-check-stands : {h : Head} → Phase h → PlainCells h cs → Accepted lock (state h cs) ExcCheckCount → Standing (next (state h cs) ExcCheckCount .head) cs
-  exc-check-stands (away t w) p a = clash (cc (a .0))
-  exc-check-stands (holding w) p a = clash (cc (a .0))
-  exc-check-stands (checking t w c l) p a = (checking t w (c + 1) (omega (arith, ltb-true, a .1 .0)), clear)
+  exc-check-count-stands : {h : Head} → Phase h → PlainCells h cs → Accepted lock (state h cs) ExcCheckCount → Standing (next (state h cs) ExcCheckCount .head) cs
+  exc-check-count-stands (away t w) p a = clash (cc (a .0))
+  exc-check-count-stands (holding w) p a = clash (cc (a .0))
+  exc-check-count-stands (checking t w c l) p a = (checking t w (c + 1) (omega (arith, ltb-true, a .1 .0)), clear)
     where
       clear : (r : ℕ) → ltb r (c + 1) ≡ true → guards cs r ≡ 0
       clear r m = on (eqb r c)
@@ -121,7 +121,7 @@ cell-kept s r c p b k =
 
 pub plain-next : (s : State) (x : LockStep) → Plain s → Accepted lock s x → Plain (next s x)
 plain-next s ExcStart p a = head-kept s _ p refl (exc-start-stands (s .cells) (p .phase) a)
-plain-next s ExcCheckCount p a = head-kept s _ p refl (exc-check-stands (s .cells) (p .phase) (p .cells) a)
+plain-next s ExcCheckCount p a = head-kept s _ p refl (exc-check-count-stands (s .cells) (p .phase) (p .cells) a)
 plain-next s ExcFinish p a = head-kept s _ p refl (exc-finish-stands (s .cells) (p .phase) (p .cells) a)
 plain-next s (ExcRelease t) p a = head-kept s _ p refl (exc-release-stands (s .cells) t (p .phase) a)
 plain-next s (SharedStart r) p a =

@@ -8,7 +8,7 @@ use lib.Dec.{ltb}
 use Rattle.machine.specs.Check.{first}
 use Rattle.machine.proofs.Checks.{all-first}
 use Rattle.schedule.specs.Limits as limit
-use Rattle.lock.specs.Lock.{cell, excCheckTests, insideTests, sharedFinishTests, roomTests, pendingTests, guardTests}
+use Rattle.lock.specs.Lock.{cell, excCheckCountTests, insideTests, sharedFinishTests, roomTests, pendingTests, guardTests}
 use Rattle.lock.specs.Sound.{sound}
 use Rattle.lock.specs.declared.state.State.{State}
 use Rattle.lock.proofs.Plain.{test-head, test-cells}
@@ -19,8 +19,8 @@ module _ (s : State) (safe : sound s ≡ true) where
   inside : (r : ℕ) → ltb r (s .head .width) ≡ true → r < limit.width
   inside r b = omega (arith, ltb-true r (s .head .width) b, test-head s safe .1)
 
-  pub cursor-inside : (a : ℕ) → a ≡ first (excCheckTests (s .head)) → a ≡ 0 → s .head .cursor < limit.width
-  cursor-inside a e z = inside (s .head .cursor) (all-first (excCheckTests (s .head)) refl (sym e ∙ z) .1 .0)
+  pub cursor-inside : (a : ℕ) → a ≡ first (excCheckCountTests (s .head)) → a ≡ 0 → s .head .cursor < limit.width
+  cursor-inside a e z = inside (s .head .cursor) (all-first (excCheckCountTests (s .head)) refl (sym e ∙ z) .1 .0)
 
   pub cell-inside : (r a : ℕ) → a ≡ first (insideTests (s .head) r) → a ≡ 0 → r < limit.width
   cell-inside r a e z = inside r (all-first (insideTests (s .head) r) refl (sym e ∙ z) .0)
@@ -30,8 +30,8 @@ module _ (s : State) (safe : sound s ≡ true) where
 
   -- ---------- the numbers
 
-  pub exc-check-fits : (a : ℕ) → a ≡ first (excCheckTests (s .head)) → a ≡ 0 → ltb (s .head .cursor) limit.counter ≡ true
-  exc-check-fits a e z = lt-ltb (s .head .cursor) limit.counter (omega (arith, cursor-inside a e z))
+  pub exc-check-count-fits : (a : ℕ) → a ≡ first (excCheckCountTests (s .head)) → a ≡ 0 → ltb (s .head .cursor) limit.counter ≡ true
+  exc-check-count-fits a e z = lt-ltb (s .head .cursor) limit.counter (omega (arith, cursor-inside a e z))
 
   module _ (r : ℕ) where
     pub shared-start-fits : first (roomTests (cell s r)) ≡ 0 → ltb (cell s r .pending) limit.counter ≡ true

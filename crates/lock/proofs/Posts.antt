@@ -1,5 +1,4 @@
--- An accepted step is the source's transition, to what the state after it stands for and nowhere else; it logs what the source hands out, and what the
--- source deposits, withdraws and adds is safe. Assumes nothing.
+-- What an accepted step does in the source: where it leads, to no other state, what it hands out, and that its deposits and withdrawals are safe. Assumes nothing.
 use Prim.Native.Nat.{ℕ}
 use mathlib.Core.Path.{_≡_, refl, sym, _∙_, ap}
 use mathlib.Core.Bool.{true}

@@ -1,16 +1,32 @@
--- What the lock and its source have to do with each other, in one record; and every state that a fresh lock comes to is sound. Assumes nothing.
+-- The machine and its source: all that specs/Refined.antt asks for; and every state that a history leads to from a fresh machine is sound. Assumes nothing.
 use Prim.Native.Nat.{ℕ, _≤_}
-use Rattle.machine.specs.History.{History, Run}
+use Rattle.machine.specs.History.{Run}
 use Rattle.machine.proofs.Runs.{always}
 use Rattle.schedule.specs.Limits as limit
+use Rattle.lock.specs.Source as source
+use Rattle.lock.specs.Source.{Transition}
+use Rattle.schedule.specs.declared.steps.LockStep.{LockStep}
+use Rattle.schedule.specs.declared.steps.LockStep.the-variants.{ExcStart, ExcCheckCount, ExcFinish, ExcRelease, SharedStart, SharedFinish, SharedRelease}
+use Rattle.lock.proofs.Inductive as source-own
+use mathlib.Core.Path.{_≡_, refl}
 use Rattle.lock.specs.Lock.{lock, freshState}
-use Rattle.lock.specs.Refined.{abs, Sound, Refines}
+use Rattle.lock.specs.Refined.{label, Sound, Refines}
+use Rattle.lock.specs.Demand.{Hist}
 use Rattle.lock.specs.declared.state.State.{State}
-use Rattle.lock.proofs.Inductive.{do-guard-holds}
-use Rattle.lock.proofs.Sounds.{all-carry, sound-means, means-sound, plain-sound, fresh-plain, fresh-sound, fresh-initialize, fresh-new}
+use Rattle.lock.proofs.Sounds.{sound-means, means-sound, fresh-initialize, fresh-new, fresh-means, fresh-sound}
 use Rattle.lock.proofs.Kept.{accepted-sound}
 use Rattle.lock.proofs.Enabling.{accepted-enabled, enabled-accepted}
 use Rattle.lock.proofs.Posts.{accepted-moves, accepted-post, accepted-logs, accepted-safe}
+
+-- every transition of the source is some step's
+onto : (y : Transition) → (x : LockStep) × (label x ≡ y)
+onto source.exc-start = (ExcStart, refl)
+onto source.exc-check-count = (ExcCheckCount, refl)
+onto source.exc-finish = (ExcFinish, refl)
+onto (source.exc-release t) = (ExcRelease t, refl)
+onto (source.shared-start r) = (SharedStart r, refl)
+onto (source.shared-finish r) = (SharedFinish r, refl)
+onto (source.shared-release val) = (SharedRelease (val .0) (val .1), refl)
 
 pub refines : Refines
 refines =
@@ -22,6 +38,7 @@ refines =
       means-sound = means-sound;
       upholds =
           record {
+            onto = onto;
             accepted-enabled = accepted-enabled;
             enabled-accepted = enabled-accepted;
             accepted-moves = accepted-moves;
@@ -30,10 +47,11 @@ refines =
             accepted-safe = accepted-safe;
             accepted-good = accepted-sound;
           };
-      guards-stored = λ s k. do-guard-holds (abs s) (k .inv);
-      guards-counted = λ s k. all-carry s;
+      initial = source-own.initialize-inductive;
+      inductive = record { kept = source-own.inductive; safe = source-own.safe };
+      guards-stored = source-own.do-guard-holds;
     }
 
-pub every-prefix-sound : (w t : ℕ) → 1 ≤ w → w ≤ limit.width → {h : History lock} {s : State} → Run lock (freshState w t) h s → Sound s
+pub every-prefix-sound : (w t : ℕ) → 1 ≤ w → w ≤ limit.width → {h : Hist} {s : State} → Run lock (freshState w t) h s → Sound s
 every-prefix-sound w t low high r =
-    always lock (freshState w t) (λ h s. Sound s) (plain-sound (freshState w t) (fresh-plain w t low high)) (λ h s x k a. accepted-sound s x k a) r
+    always lock (freshState w t) (λ h s. Sound s) (fresh-means w t low high) (λ h s x k a. accepted-sound s x k a) r

@@ -1,5 +1,5 @@
 -- The test of a state says what soundness means: the source's invariants, the limits, unused entries zero. Assumes nothing.
-use Prim.Native.Nat.{ℕ, zero, suc, _+_, _≤_, _<_}
+use Prim.Native.Nat.{ℕ, _+_, _≤_, _<_}
 use mathlib.Core.Path.{_≡_, refl}
 use mathlib.Core.Bool.{Bool, true, false}
 use mathlib.Core.Logic.{inl, inr}
@@ -7,9 +7,10 @@ use mathlib.Core.List.{List}
 use mathlib.Core.Option.{some}
 use native.Mathlib.Omega.{arith}
 use lib.Dec.{ltb}
-use lib.ListN.{length, getD, replicate, length-replicate}
+use lib.ListN.{length, length-replicate}
 use borrow.Author.Tests.{ltb-true, ltb-false, lt-ltb, le-ltb}
 use Rattle.rows.proofs.Cases.{on, clash}
+use Rattle.rows.proofs.Rows.{getD-replicate}
 use Rattle.machine.proofs.Multisets.{only-here, only-other}
 use Rattle.schedule.specs.Limits as limit
 use Rattle.lock.specs.Source.{Initialize}
@@ -98,7 +99,7 @@ module _ (s : State) (p : Plain s) where
       counts = counts-hold;
     };
     whole = p .whole;
-    width = p .high;
+    few = p .high;
     counts = λ r. p .cells r .small;
     unused-cells = λ r. p .cells r .unused;
     unused-record = unused-record (p .phase);
@@ -150,7 +151,7 @@ module _ (s : State) (k : Sound s) where
       }
 
   pub sound-plain : Plain s
-  sound-plain = record { whole = k .whole; low = k .inv .domain .positive; high = k .width; phase = sound-phase; cells = sound-cell }
+  sound-plain = record { whole = k .whole; low = k .inv .domain .positive; high = k .few; phase = sound-phase; cells = sound-cell }
 
 -- ---------- the test is the record, where the row is whole
 
@@ -162,19 +163,17 @@ means-sound s k = plain-test s (sound-plain s k)
 
 -- ---------- a fresh lock
 
-pub zero-at : (n r : ℕ) → getD (replicate n zeroCell) r zeroCell ≡ zeroCell
-zero-at zero r = refl
-zero-at (suc n) zero = refl
-zero-at (suc n) (suc r) = zero-at n r
-
 pub fresh-plain : (w t : ℕ) → 1 ≤ w → w ≤ limit.width → Plain (freshState w t)
 fresh-plain w t low high = record {
   whole = length-replicate limit.width zeroCell;
   low = low;
   high = high;
   phase = away t w;
-  cells = λ r. rw (zero-at limit.width r) (zero-plain (freshState w t .head) r);
+  cells = λ r. rw (getD-replicate limit.width r zeroCell) (zero-plain (freshState w t .head) r);
 }
+
+pub fresh-means : (w t : ℕ) → 1 ≤ w → w ≤ limit.width → Sound (freshState w t)
+fresh-means w t low high = plain-sound (freshState w t) (fresh-plain w t low high)
 
 pub fresh-sound : (w t : ℕ) → 1 ≤ w → w ≤ limit.width → sound (freshState w t) ≡ true
 fresh-sound w t low high = plain-test (freshState w t) (fresh-plain w t low high)
@@ -186,10 +185,10 @@ module _ (w t : ℕ) (low : 1 ≤ w) (high : w ≤ limit.width) where
       record {
         require = low;
         init = same-readers (abs (freshState w t))
-            (λ i. rw (zero-at limit.width i))
-            (λ r. rw (zero-at limit.width r))
-            (λ v. carrying-none t (guards (freshState w t .cells)) (v .0) (v .1) (rw (zero-at limit.width (v .0))));
+            (λ i. rw (getD-replicate limit.width i zeroCell))
+            (λ r. rw (getD-replicate limit.width r zeroCell))
+            (λ v. carrying-none t (guards (freshState w t .cells)) (v .0) (v .1) (rw (getD-replicate limit.width (v .0) zeroCell)));
       }
 
   pub fresh-new : New w t (abs (freshState w t))
-  fresh-new = record { width = refl; cells = λ i l. rw (lt-ltb i w l, zero-at limit.width i); unlocked = refl; stored = refl }
+  fresh-new = record { width = refl; cells = λ i l. rw (lt-ltb i w l, getD-replicate limit.width i zeroCell); beyond = λ i l. rw (le-ltb i w l); unlocked = refl; stored = refl }

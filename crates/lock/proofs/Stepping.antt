@@ -15,11 +15,11 @@ use Rattle.lock.specs.Single.{answer, stepper, Applied}
 use Rattle.lock.specs.declared.state.State.{State}
 use Rattle.lock.specs.declared.reader.CellMoved.{CellMoved}
 use Rattle.lock.specs.declared.single.Answer.{Answer}
-use Rattle.lock.proofs.Arms.{head-stops, shared-finish-fair}
+use Rattle.lock.proofs.Arms.{stopped, shared-finish-fair}
 
 module _ (s : State) (l : List ℕ) (q : Answer) (room : limit.entry ≤ length l) (safe : sound s ≡ true) (r a : ℕ) (c : a ≡ first (sharedFinishTests (s .head) r)) where
-  pub shared-finish-stops : (a ≡ 0 → ⊥) → q ≡ answer s 0 a → Applied s (SharedFinish r) l q l
-  shared-finish-stops n p = refused stepper s (SharedFinish r) l q room safe a (sym (head-stops s (SharedFinish r) a c n)) n p
+  pub shared-finish-stopped : (a ≡ 0 → ⊥) → q ≡ answer s 0 a → Applied s (SharedFinish r) l q l
+  shared-finish-stopped n p = refused stepper s (SharedFinish r) l q room safe a (sym (stopped s (SharedFinish r) a c n)) n p
 
   pub shared-finish-refused : a ≡ 0 → (m : CellMoved) → m ≡ finishedCell (cell s r) → (m .code ≡ 0 → ⊥) → q ≡ answer s 0 (m .code) → Applied s (SharedFinish r) l q l
   shared-finish-refused y m e n p =

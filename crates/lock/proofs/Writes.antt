@@ -4,14 +4,11 @@ use mathlib.Core.List.{List, [], _∷_, _++_}
 use Prim.Native.Nat.{ℕ, _+_, _-_, _*_, _≤_, _<_}
 use native.Mathlib.Omega.{arith}
 use mir.Val.{boolByte}
-use borrow.Author.Tests.{ltb-true}
-use lib.Dec.{ltb}
 use lib.ListN.{length, getD, set, take, length-set, length-append, length-take}
 use Rattle.rows.specs.Bytes.{big}
 use Rattle.rows.specs.Stores.{Laid}
 use Rattle.rows.specs.Walk.{pieces}
-use Rattle.rows.proofs.Cases.{on}
-use Rattle.rows.proofs.Walks.{pieces-even}
+use Rattle.rows.proofs.Walks.{pieces-even, at-most}
 use Rattle.rows.proofs.Stores.{whole-laid, laid-whole, none-laid, laid-then, laid-length, stores-then}
 use Rattle.rows.proofs.Laying.{Laying, pieces-long, laying-more}
 use Rattle.schedule.specs.Limits as limit
@@ -22,7 +19,6 @@ use Rattle.lock.specs.Image.{entryBytes, headBytes, cellBytes, inUse, im
 use Rattle.lock.specs.declared.state.Cell.{Cell}
 use Rattle.lock.specs.declared.state.Head.{Head}
 use Rattle.lock.specs.declared.state.State.{State}
-use Rattle.lock.specs.declared.entry.Entry.{Entry}
 use Rattle.lock.specs.declared.entry.Entry.the-variants.{Withdrawn, Granted}
 
 -- ---------- an entry
@@ -43,10 +39,6 @@ module _ (l : List ℕ) (i j a b p r : ℕ) (bs l′ : List ℕ) where
 
   pub three-length : (m c : ℕ) → Laid (set (set (set l i a) j b) m c) p bs r l′ → length l′ ≡ length l
   three-length m c k = laid-length _ p bs r l′ k ∙ simp length-set
-
--- an entry that was matched
-pub entry-laid : (e e′ : Entry) (l : List ℕ) (at r : ℕ) (l′ : List ℕ) → e ≡ e′ → Laid l at (entryBytes e′) r l′ → Laid l at (entryBytes e) r l′
-entry-laid e e′ l at r l′ p k = rw p k
 
 -- a step logs one entry at most
 pub logs-short : (s : State) (x : LockStep) → length (pieces entryBytes (logs s x)) ≤ limit.entry
@@ -124,13 +116,10 @@ module _ (s : State) (l : List ℕ) (n : ℕ) (used : n ≡ inUse (s .head .widt
         laid-then l 0 (headBytes (s .head)) (pieces cellBytes (take (inUse (s .head .width)) (s .cells))) a k r l′ (omega arith) head (rw (← used) d)
 
 -- the image of any state fits: no more cells than the row has are in use
-few : (width : ℕ) → inUse width ≤ limit.width
-few width = on (ltb width limit.width) (λ b. rw b (omega (arith, ltb-true width limit.width b))) (λ b. rw b (omega arith))
-
 pub image-small : (s : State) → length (imageBytes s) ≤ limit.image
 image-small s =
     let cells = take (inUse (s .head .width)) (s .cells) in
-    let long : length cells ≤ limit.width = simp length-take (omega (arith, few (s .head .width))) in
+    let long : length cells ≤ limit.width = simp length-take (omega (arith, at-most limit.width (s .head .width))) in
     let bytes : length (pieces cellBytes cells) ≡ length cells * 3 = pieces-even cellBytes 3 (λ c. refl) cells in
     let both = length-append (headBytes (s .head)) (pieces cellBytes cells) in
     omega arith

@@ -136,6 +136,16 @@ sharedCases =
     ∷ refuses (away 1 5 (readers 0 1 ∷ [])) (SharedRelease 0 6) 17 (0 ∷ 1 ∷ 0 ∷ 0 ∷ 0 ∷ 5 ∷ 0 ∷ 0 ∷ 0 ∷ 1 ∷ 0 ∷ 1 ∷ [])
     ∷ []
 
+-- whole runs of a fresh lock: a reader gets its guard with the record in store; after a handover, with the new one; and stops a writer at its cell
+abbrev pub wholeRuns : List (Case lock)
+wholeRuns =
+    runs (away 1 5 []) (SharedStart 0 ∷ SharedFinish 0 ∷ []) 0 2 (0 ∷ 1 ∷ 0 ∷ 0 ∷ 0 ∷ 5 ∷ 0 ∷ 0 ∷ 0 ∷ 1 ∷ 0 ∷ 1 ∷ []) (6 ∷ 2 ∷ 0 ∷ 0 ∷ 0 ∷ 0 ∷ 5 ∷ [])
+    ∷ runs (away 1 5 []) (ExcStart ∷ ExcCheckCount ∷ ExcFinish ∷ ExcRelease 6 ∷ SharedStart 0 ∷ SharedFinish 0 ∷ []) 0 6
+    (0 ∷ 1 ∷ 0 ∷ 0 ∷ 0 ∷ 6 ∷ 0 ∷ 0 ∷ 0 ∷ 1 ∷ 0 ∷ 1 ∷ []) (5 ∷ 1 ∷ 0 ∷ 0 ∷ 0 ∷ 5 ∷ 6 ∷ 2 ∷ 0 ∷ 0 ∷ 0 ∷ 0 ∷ 6 ∷ [])
+    ∷ runs (away 1 5 []) (SharedStart 0 ∷ SharedFinish 0 ∷ ExcStart ∷ ExcCheckCount ∷ []) 16 3 (1 ∷ 1 ∷ 0 ∷ 0 ∷ 0 ∷ 5 ∷ 1 ∷ 0 ∷ 0 ∷ 1 ∷ 0 ∷ 1 ∷ [])
+    (6 ∷ 2 ∷ 0 ∷ 0 ∷ 0 ∷ 0 ∷ 5 ∷ [])
+    ∷ []
+
 -- P2: a fresh lock has exactly the asked width, all counts 0, unlocked, storing the record; width 0 or 17 is 5, with a state of zeros
 abbrev pub freshCases : List (Start (ℕ × ℕ))
 freshCases =
@@ -145,8 +155,6 @@ freshCases =
     ∷ starts (0, 5) 5 (zeros 9)
     ∷ starts (17, 5) 5 (zeros 9)
     ∷ []
-
--- ---------- the machine's answers are the table's
 
 -- rows with one thing wrong in each: the code, the place, the image, whether it is sound, the log
 abbrev pub wrongCases : List (Case lock)
@@ -165,14 +173,16 @@ wrongFresh =
     ∷ starts (1, 5) 0 (0 ∷ 1 ∷ 0 ∷ 0 ∷ 0 ∷ 6 ∷ 0 ∷ 0 ∷ 0 ∷ nobody)
     ∷ []
 
+-- ---------- the machine's answers are the tables'
+
 abbrev freshCode : ℕ × ℕ → ℕ
 freshCode a = freshOf (a .0) (a .1) .code
 
-abbrev made : ℕ × ℕ → State
-made a = freshOf (a .0) (a .1) .state
+abbrev freshMade : ℕ × ℕ → State
+freshMade a = freshOf (a .0) (a .1) .state
 
 abbrev pub Tabled : Type 0
 Tabled =
     (allRight lock sound imageBytes entryBytes excCases && (allRight lock sound imageBytes entryBytes sharedCases
-    && (allStarted lock sound imageBytes entryBytes freshCode made freshCases
-    && (allWrong lock sound imageBytes entryBytes wrongCases && noneStarted lock sound imageBytes entryBytes freshCode made wrongFresh)))) ≡ true
+    && (allRight lock sound imageBytes entryBytes wholeRuns && (allStarted lock sound imageBytes entryBytes freshCode freshMade freshCases
+    && (allWrong lock sound imageBytes entryBytes wrongCases && noneStarted lock sound imageBytes entryBytes freshCode freshMade wrongFresh))))) ≡ true

@@ -1,9 +1,10 @@
 -- Demand 3's share of the shift lock, said of an accepted history alone. Proved in proofs/Demands.antt. Assumes nothing.
 use Prim.Native.Nat.{ℕ, _+_, _≤_, _<_}
 use mathlib.Core.Path.{_≡_}
-use mathlib.Core.Bool.{Bool, true, false, _&&_}
+use mathlib.Core.Bool.{Bool, true, false, _&&_, cond}
 use mathlib.Core.List.{[], _∷_}
 use lib.Dec.{eqb}
+use Rattle.rows.specs.Walk.{bit}
 use Rattle.machine.specs.History.{History, Run, did#, logged#}
 use Rattle.schedule.specs.Limits as limit
 use Rattle.schedule.specs.declared.steps.LockStep.{LockStep}
@@ -16,7 +17,7 @@ use Rattle.lock.specs.declared.entry.Entry.the-variants.{Withdrawn, Gran
 abbrev pub Hist : Type 0
 Hist = History lock
 
--- ---------- which steps and entries are counted
+-- ---------- what is counted
 
 abbrev pub startsAt : ℕ → LockStep → Bool
 startsAt r ExcStart = false
@@ -108,8 +109,9 @@ abbrev pub inForce : ℕ → Hist → ℕ
 inForce t₀ [] = t₀
 inForce t₀ (e ∷ h) = newer (e .did) (inForce t₀ h)
 
--- ---------- the demand, from a fresh lock that stores t₀
+-- ---------- the demand
 
+-- of a history from a fresh lock that stores t₀
 pub record Demand (t₀ : ℕ) (h : Hist) : Type 0 where
   -- no guard is given back that was not handed out
   pub readers-exact : (r t : ℕ) → givenBack h r t ≤ handedOut h r t
@@ -121,6 +123,7 @@ pub record Demand (t₀ : ℕ) (h : Hist) : Type 0 where
   -- each reader guard carries the record of the latest writer release, or the initial one
   pub current : (r t : ℕ) → ReaderAt h r t → t ≡ inForce t₀ h
 
+-- after every accepted prefix from a fresh machine
 abbrev pub Demanded : Type 0
 Demanded = (w t₀ : ℕ) → 1 ≤ w → w ≤ limit.width → (h : Hist) (s : State) → Run lock (freshState w t₀) h s → Demand t₀ h
 
@@ -128,3 +131,9 @@ Demanded = (w t₀ : ℕ) → 1 ≤ w → w ≤ limit.width → (h : Hist) (s : 
 abbrev pub CellsCounted : Type 0
 CellsCounted = (w t₀ : ℕ) → 1 ≤ w → w ≤ limit.width → (h : Hist) (s : State) → Run lock (freshState w t₀) h s
     → (r : ℕ) → cell s r .count + sharedReleases h r ≡ sharedStarts h r
+
+-- and the guards that stand are counted: of each cell and record, those handed out are those given back and those in the cell, which carry the record in
+-- force; and a writer's likewise
+abbrev pub GuardsCounted : Type 0
+GuardsCounted = (w t₀ : ℕ) → 1 ≤ w → w ≤ limit.width → (h : Hist) (s : State) → Run lock (freshState w t₀) h s
+    → ((r u : ℕ) → handedOut h r u ≡ givenBack h r u + cond (eqb u (inForce t₀ h)) (cell s r .guards) 0) × (taken h ≡ returned h + bit (s .head .guard))

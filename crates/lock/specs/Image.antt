@@ -1,12 +1,10 @@
 -- The bytes of an entry and of a state: the scope, "Log and image". Assumes nothing.
 use Prim.Native.Nat.{ℕ}
-use mathlib.Core.Bool.{cond}
 use mathlib.Core.List.{List, [], _∷_, _++_}
 use mir.Val.{boolByte}
-use lib.Dec.{ltb}
 use lib.ListN.{take}
 use Rattle.rows.specs.Bytes.{big}
-use Rattle.rows.specs.Walk.{pieces}
+use Rattle.rows.specs.Walk.{pieces, atMost}
 use Rattle.schedule.specs.Limits as limit
 use Rattle.lock.specs.declared.state.Cell.{Cell}
 use Rattle.lock.specs.declared.state.Head.{Head}
@@ -26,9 +24,9 @@ cellBytes c = c .count ∷ c .pending ∷ c .guards ∷ []
 abbrev pub headBytes : Head → List ℕ
 headBytes h = boolByte (h .locked) ∷ boolByte (h .stored) ∷ (big 4 (h .t) ++ (boolByte (h .pending) ∷ h .cursor ∷ boolByte (h .guard) ∷ []))
 
--- the cells in use: the width, and in a made-up state no more than there are
+-- how many of the row are in use; in a made-up state no more than there are
 abbrev pub inUse : ℕ → ℕ
-inUse width = cond (ltb width limit.width) width limit.width
+inUse n = atMost limit.width n
 
 abbrev pub imageBytes : State → List ℕ
 imageBytes s = headBytes (s .head) ++ pieces cellBytes (take (inUse (s .head .width)) (s .cells))

@@ -74,5 +74,6 @@ do-guard m = shared-inv-agree m
 pub record New (rc-width t : ℕ) (m : DistRwLock) : Type 0 where
   pub width : m .rc-width ≡ rc-width
   pub cells : (i : ℕ) → i < rc-width → m .ref-counts i ≡ some 0
+  pub beyond : (i : ℕ) → rc-width ≤ i → m .ref-counts i ≡ none
   pub unlocked : m .exc-locked ≡ false
   pub stored : m .storage ≡ some t

@@ -48,8 +48,8 @@ cell s r = getD (s .cells) r zeroCell
 abbrev pub excStartTests : Head → List Check
 excStartTests h = need code.phase (not (h .locked)) ∷ []
 
-abbrev pub excCheckTests : Head → List Check
-excCheckTests h = need code.phase (h .pending) ∷ need code.cursor (ltb (h .cursor) (h .width)) ∷ []
+abbrev pub excCheckCountTests : Head → List Check
+excCheckCountTests h = need code.phase (h .pending) ∷ need code.cursor (ltb (h .cursor) (h .width)) ∷ []
 
 abbrev pub excFinishTests : Head → List Check
 excFinishTests h = need code.phase (h .pending) ∷ need code.cursor (eqb (h .cursor) (h .width)) ∷ []
@@ -82,7 +82,7 @@ guardTests h c t = need code.missing (ltb 0 (c .guards)) ∷ need code.missing (
 
 abbrev pub headTests : State → LockStep → List Check
 headTests s ExcStart = excStartTests (s .head)
-headTests s ExcCheckCount = excCheckTests (s .head)
+headTests s ExcCheckCount = excCheckCountTests (s .head)
 headTests s ExcFinish = excFinishTests (s .head)
 headTests s (ExcRelease t) = excReleaseTests (s .head)
 headTests s (SharedStart r) = insideTests (s .head) r
@@ -101,7 +101,7 @@ cellTests s (SharedRelease r t) = guardTests (s .head) (cell s r) t
 abbrev pub tests : State → LockStep → List Check
 tests s x = headTests s x ++ cellTests s x
 
--- ---------- the state after
+-- ---------- the state after, and what is logged
 
 abbrev pub withHead : State → Head → State
 withHead s h = record { head = h; cells = s .cells }

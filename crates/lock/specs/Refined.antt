@@ -1,4 +1,4 @@
--- How a state stands for the source's, and what is proved of the two: proofs/Refines.antt and proofs/Sounds.antt. Assumes nothing.
+-- How a state stands for the source's, and what is proved of the two: proofs/Refines.antt. Assumes nothing.
 use Prim.Native.Nat.{ℕ, _≤_}
 use mathlib.Core.Path.{_≡_}
 use mathlib.Core.Bool.{true, false, cond}
@@ -6,7 +6,7 @@ use mathlib.Core.List.{List, [], _∷_}
 use mathlib.Core.Option.{none, some}
 use lib.Dec.{eqb, ltb}
 use lib.ListN.{length}
-use Rattle.machine.specs.Sourced.{Sourced, Upholds}
+use Rattle.machine.specs.Sourced.{Sourced, Inductive, Upholds}
 use Rattle.schedule.specs.Limits as limit
 use Rattle.schedule.specs.declared.steps.LockStep.{LockStep}
 use Rattle.schedule.specs.declared.steps.LockStep.the-variants.{ExcStart, ExcCheckCount, ExcFinish, ExcRelease, SharedStart, SharedFinish, SharedRelease}
@@ -48,7 +48,7 @@ pub record Sound (s : State) : Type 0 where
   pub inv : Invariants (abs s)
   -- the row is whole, the width and the counts are in their limits
   pub whole : length (s .cells) ≡ limit.width
-  pub width : s .head .width ≤ limit.width
+  pub few : s .head .width ≤ limit.width
   pub counts : (r : ℕ) → cell s r .count ≤ limit.counter
   -- a cell that is not in use, the record while none is stored, the cursor while no writer is pending
   pub unused-cells : (r : ℕ) → s .head .width ≤ r → cell s r ≡ zeroCell
@@ -102,6 +102,8 @@ pub record Refines : Type 0 where
   pub means-sound : (s : State) → Sound s → sound s ≡ true
   -- of a sound state: a step is accepted exactly when it is enabled, and then does what the source says and leaves a sound state
   pub upholds : Upholds distRwLock Sound
-  -- a guard's value is the stored one, and the guards are a count at the stored record and none elsewhere
-  pub guards-stored : (s : State) → Sound s → do-guard (abs s)
-  pub guards-counted : (s : State) → Sound s → (r t : ℕ) → (t ≡ s .head .t → ⊥) → abs s .shared-guard (r, t) ≡ 0
+  -- the source's own proofs, over all of its states: it starts with its invariants, and its transitions keep them
+  pub initial : (w t : ℕ) (post : DistRwLock) → Initialize w t post → Invariants post
+  pub inductive : Inductive distRwLock Invariants
+  -- the source's property follows from its invariants: a guard's value is the stored one
+  pub guards-stored : (m : DistRwLock) → Invariants m → do-guard m

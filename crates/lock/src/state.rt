@@ -46,16 +46,16 @@ pub fn fresh(width: u8, t: u32) -> Made
     ensures { λ r. ⌜ r ≡ freshOf width t ⌝ }
 {
     if width == 0 {
-        return unlocked(0, 0, false, codes::PARAMETER);
+        return idle(0, 0, false, codes::PARAMETER);
     }
     if limits::WIDTH < width as usize {
-        return unlocked(0, 0, false, codes::PARAMETER);
+        return idle(0, 0, false, codes::PARAMETER);
     }
-    unlocked(width, t, true, codes::ACCEPTED)
+    idle(width, t, true, codes::ACCEPTED)
 }
 
 // No writer, no reader.
-fn unlocked(width: u8, t: u32, stored: bool, code: u8) -> Made
+fn idle(width: u8, t: u32, stored: bool, code: u8) -> Made
     ensures { λ r. ⌜ r ≡ record { state = emptyLock width t stored; code = code } ⌝ }
 {
     let head = Head {
@@ -82,7 +82,7 @@ pub fn image(s: State, out: &mut [u8]) -> usize
     ensures { λ r. ⌜ Laid (now (out .entry)) 0 (imageBytes s) r (now (out .exit)) ⌝ }
 {
     let h = s.head;
-    let n = cells_used(h.width);
+    let n = in_use(h.width);
     if out.len() < 9 + 3 * n {
         return 0;
     }
@@ -90,8 +90,8 @@ pub fn image(s: State, out: &mut [u8]) -> usize
     put_cells(out, a, s, n)
 }
 
-// How many cells are in use: the width, and in a made-up state no more than there are.
-fn cells_used(width: u8) -> usize
+// How many of the row are in use; in a made-up state no more than there are.
+fn in_use(width: u8) -> usize
     ensures { λ r. ⌜ r ≡ inUse width ⌝ }
     ensures { λ r. ⌜ r ≤ limit.width ⌝ }
 {

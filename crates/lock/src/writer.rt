@@ -6,7 +6,7 @@ use machine::codes;
 use schedule::limits;
 ghost use mathlib.Core.Path.{_≡_};
 ghost use Rattle.machine.specs.Check.{first};
-ghost use Rattle.lock.specs.Lock.{excCheckTests};
+ghost use Rattle.lock.specs.Lock.{excCheckCountTests};
 ghost use Rattle.lock.specs.Moved.{startedHead, checkedHead, finishedHead, releasedHead};
 
 pub struct HeadMoved {
@@ -40,7 +40,7 @@ pub fn exc_start(h: Head) -> HeadMoved
 
 // The tests of exc_check_count on the head: which cell is next is known once they hold.
 pub fn may_check(h: Head) -> u8
-    ensures { λ r. ⌜ r ≡ first (excCheckTests h) ⌝ }
+    ensures { λ r. ⌜ r ≡ first (excCheckCountTests h) ⌝ }
 {
     if h.pending {
         if h.cursor < h.width {

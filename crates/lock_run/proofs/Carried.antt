@@ -1,4 +1,4 @@
--- What the shift lock has of its own for the laws of a run, and that a run may start from a lock that its parameters make. Assumes nothing.
+-- What the shift lock has of its own for the laws of a run, and that a run may start from a machine that its parameters make. Assumes nothing.
 use mathlib.Core.Path.{_≡_}
 use mathlib.Core.List.{List}
 use Prim.Native.Nat.{ℕ}
@@ -13,11 +13,11 @@ use Rattle.schedule.specs.Running.{restRun}
 use Rattle.schedule.specs.declared.answer.Answer.{Answer}
 use Rattle.schedule.proofs.Languages.{lock-lawful}
 use Rattle.schedule.proofs.Running.{Carries, bad-leaves, made-leaves}
-use Rattle.lock.specs.Lock.{lock, freshOf, freshState}
+use Rattle.lock.specs.Lock.{lock, freshOf}
 use Rattle.lock.specs.Refined.{Sound}
 use Rattle.lock.specs.declared.state.Made.{Made}
 use Rattle.lock.proofs.Writes.{logs-short, image-small}
-use Rattle.lock.proofs.Sounds.{plain-sound, fresh-plain}
+use Rattle.lock.proofs.Sounds.{fresh-means}
 use Rattle.lock.proofs.Kept.{accepted-sound}
 use Rattle.lock_run.specs.Run.{runner, restOfFile}
 
@@ -37,7 +37,7 @@ sound-fresh width t z =
     (λ b. on (ltb limit.width width)
     (λ d. absurd (omega (arith, rw (b, d) at z)))
     (λ d. rw (b, d)
-    (plain-sound (freshState width t) (fresh-plain width t (omega (arith, eqb-false width 0 b)) (ltb-false limit.width width d)))))
+    (fresh-means width t (omega (arith, eqb-false width 0 b)) (ltb-false limit.width width d))))
 
 module _ (width t : ℕ) (made : Made) (e : made ≡ freshOf width t) where
   pub fresh-good : made .code ≡ 0 → Sound (made .state)

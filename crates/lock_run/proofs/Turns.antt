@@ -57,9 +57,9 @@ module _ (f : List ℕ) (from n : ℕ) (q₀ : State) (log₀ : List ℕ) (used 
     unfolding widthsOf widths
     exc-start-turn e d = fair-quiet runner carries f from n q₀ log₀ used log q at k w g h x r ExcStart e a t d z refl
 
-    pub exc-check-turn : x ≡ ExcCheckCount → Fair lock q ExcCheckCount a t → Then log t (at + 2) w
+    pub exc-check-count-turn : x ≡ ExcCheckCount → Fair lock q ExcCheckCount a t → Then log t (at + 2) w
     unfolding widthsOf widths
-    exc-check-turn e d = fair-quiet runner carries f from n q₀ log₀ used log q at k w g h x r ExcCheckCount e a t d z refl
+    exc-check-count-turn e d = fair-quiet runner carries f from n q₀ log₀ used log q at k w g h x r ExcCheckCount e a t d z refl
 
     pub exc-release-turn : (u : ℕ) → x ≡ ExcRelease u → Fair lock q (ExcRelease u) a t → Then log t (at + 6) w
     unfolding widthsOf widths
@@ -89,9 +89,9 @@ module _ (f : List ℕ) (from n : ℕ) (q₀ : State) (log₀ : List ℕ) (used 
   unfolding widthsOf widths
   exc-start-ahead = ahead runner carries f from n q₀ log₀ used log q at k w g h x r ExcStart
 
-  pub exc-check-ahead : x ≡ ExcCheckCount → Fits w64 (at + 2)
+  pub exc-check-count-ahead : x ≡ ExcCheckCount → Fits w64 (at + 2)
   unfolding widthsOf widths
-  exc-check-ahead = ahead runner carries f from n q₀ log₀ used log q at k w g h x r ExcCheckCount
+  exc-check-count-ahead = ahead runner carries f from n q₀ log₀ used log q at k w g h x r ExcCheckCount
 
   pub exc-finish-ahead : x ≡ ExcFinish → Fits w64 (at + 2)
   unfolding widthsOf widths

@@ -85,9 +85,6 @@ module _ (m : Machine) (stepAt : List ℕ → ℕ → m .Step) (sizeOf : m .Step
         pub going-most : w + most ≤ length log
         going-most = omega (arith, spare)
 
-        pub going-room : w + length (pieces bytes (m .logs q x)) ≤ length log
-        going-room = omega (arith, spare, short q x)
-
         -- the step is refused
         pub going-stop : (c : ℕ) → c ≡ codeOf m q x → (c ≡ 0 → ⊥) → ends₀ ≡ record { code = c; place = k; state = q; log = log; upto = w }
         unfolding stepsFrom

@@ -15,10 +15,6 @@ module _ (tests : List Check) (fits : Bool) where
       (λ e. let z : first tests ≡ 0 = eqb-true (first tests) 0 e in rw (e, h z) (sym z))
       (λ e. rw e)
 
-  -- a code of 0 says that the tests hold and the numbers fit
-  pub move-passed : moveCode tests fits ≡ 0 → first tests ≡ 0
-  move-passed z = on (eqb (first tests) 0) (λ e. eqb-true (first tests) 0 e) (λ e. rw e at z)
-
   module _ {A : Type 0} (to from : A) where
     pub move-on : first tests ≡ 0 → fits ≡ true → moveTo tests fits to from ≡ to
     move-on z h = rw (eq-eqb (first tests) 0 z, h)

@@ -1,5 +1,6 @@
--- A transition on one record: what a small function answers that makes its tests and hands the record back, moved or as it was. It takes any
--- record; `fits` says that the moved record's numbers stay in their range, as they do in every sound state, and else it is answered as unsound. Assumes nothing.
+-- A transition on one record: what a small function answers that makes the tests on this record and hands it back, moved or as it was; tests on
+-- other records come before it. It takes any record; `fits` says that the moved record's numbers stay in their range, as they do in every sound
+-- state, and else it is answered as unsound. Assumes nothing.
 use mathlib.Core.Bool.{Bool, cond}
 use mathlib.Core.List.{List}
 use Prim.Native.Nat.{ℕ}

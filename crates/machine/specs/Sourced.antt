@@ -62,8 +62,15 @@ module _ {m : Machine} (o : Sourced m) where
     -- .. and these did what the source says
     pub path : Path (o .abs s₀) (take (r .place) xs) (r .log) (o .abs (r .state))
 
+-- the source's own proofs, over all of its states: its transitions keep its invariants, and under them take nothing for granted that is not so
+pub record Inductive {m : Machine} (o : Sourced m) (Inv : o .Source → Type 0) : Type 0 where
+  pub kept : (x : o .Transition) (pre post : o .Source) → Inv pre → o .Moves pre x post → Inv post
+  pub safe : (x : o .Transition) (pre post : o .Source) → Inv pre → o .Moves pre x post → o .Safe pre x
+
 -- what is proved of each machine and its source, for the states that a schedule can reach
 pub record Upholds {m : Machine} (o : Sourced m) (Good : m .State → Type 0) : Type 0 where
+  -- every transition of the source is some step's
+  pub onto : (y : o .Transition) → (x : m .Step) × (o .label x ≡ y)
   -- a step is accepted exactly when it is enabled ..
   pub accepted-enabled : (s : m .State) (x : m .Step) → Good s → Accepted m s x → Enabled o s x
   pub enabled-accepted : (s : m .State) (x : m .Step) → Good s → Enabled o s x → Accepted m s x

@@ -9,8 +9,8 @@ use Rattle.machine.specs.Codes as code
 use Rattle.machine.specs.Machine.{Machine}
 use Rattle.machine.specs.Replay.{Replayed, replay}
 
--- steps from a state: the code, the place, the image of the state that they lead to (that before the step refused), whether it is sound, and the bytes
--- that they log
+-- steps from a state: the code, the place, the image of the state that they lead to (that before the step refused), whether it is sound, as
+-- the given one is, and the bytes that they log
 pub record Case (m : Machine) : Type 0 where
   pub given : m .State
   pub steps : List (m .Step)
@@ -51,8 +51,9 @@ module _ (m : Machine) (sound : m .State → Bool) (imageBytes : m .State → Li
       (eqb (r .code) (c .code) && eqb (r .place) (c .place))
       && (alike (imageBytes (r .state)) (c .image) && (Bool·beq (sound (r .state)) (c .sound) && alike (pieces entryBytes (r .log)) (c .log)))
 
+  -- the state that a row starts from is sound exactly if the one after it is
   abbrev pub right : Case m → Bool
-  right c = agrees c (replay m (c .given) 0 (c .steps))
+  right c = Bool·beq (sound (c .given)) (c .sound) && agrees c (replay m (c .given) 0 (c .steps))
 
   -- every row is right
   abbrev pub allRight : List (Case m) → Bool

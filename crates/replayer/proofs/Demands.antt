@@ -144,6 +144,10 @@ module _ (f log image : List ℕ) where
         step-lock = lock-upholds;
         step-counting = counting-upholds;
         step-flag = flag-upholds;
+        initial-flat = flatRefined.refines .fresh-initialize;
+        initial-lock = lockRefined.refines .fresh-initialize;
+        initial-counting = countingRefined.refines .fresh-new;
+        initial-flag = flagRefined.refines .fresh-new;
         fresh-flat = flat-fresh;
         fresh-lock = lock-fresh;
         fresh-counting = counting-fresh;
@@ -211,9 +215,14 @@ module _ (f : List ℕ) where
       record {
         guards = λ w t xs ys zs e p a. let i = decoded-allowed f (ofLock w t xs) e in lockProved.demanded w t (i .0) (i .1) _ _ (lock-run w t xs ys e a);
         cells = λ w t xs ys zs e p a. let i = decoded-allowed f (ofLock w t xs) e in lockProved.cells-counted w t (i .0) (i .1) _ _ (lock-run w t xs ys e a);
+        guards-counted = λ w t xs ys zs e p a. let i = decoded-allowed f (ofLock w t xs) e in
+            lockProved.guards-counted w t (i .0) (i .1) _ _ (lock-run w t xs ys e a);
         answers = λ n xs ys zs e p a. flatProved.demanded n (decoded-allowed f (ofFlat n xs) e) _ _ (flat-run n xs ys e a);
         references = λ xs ys zs e p a. countingProved.demanded _ _ (counting-run ys a);
+        references-counted = λ xs ys zs e p a. countingProved.refs-counted _ _ (counting-run ys a);
         flips = λ n v xs ys zs e p a. let i = flag-in n v xs ys e a in
             flagProved.demanded n v (i .0) (i .1) _ _ (history flag.flag (flag.freshState n v) ys (flag-all n v xs ys e a));
+        flips-owed = λ n v xs ys zs e p a. let i = flag-in n v xs ys e a in
+            flagProved.flips-owed n v (i .0) (i .1) _ _ (history flag.flag (flag.freshState n v) ys (flag-all n v xs ys e a));
         alone = λ n v xs ys zs e p a k h. flagRefined.refines .ends _ (flag-sound n v xs ys e a) k (rw (threads-kept (flag.freshState n v) ys) h);
       }

@@ -2,11 +2,11 @@
 use mathlib.Core.Path.{_≡_, refl}
 use mathlib.Core.Bool.{Bool, true}
 use Prim.Native.Nat.{ℕ, _≤_}
-use Rattle.machine.specs.Machine.{Machine}
+use Rattle.machine.specs.Machine.{Machine, codeOf}
 use Rattle.machine.specs.Single.{Stepper}
 use Rattle.machine.specs.Sourced.{Sourced, Upholds}
-use Rattle.machine.proofs.Steps.{accepted-code}
-use Rattle.machine.proofs.Singles.{single-accepted, zero-accepted}
+use Rattle.machine.proofs.Steps.{accepted-code, code-accepted, code-fails}
+use Rattle.machine.proofs.Singles.{single-foreign, single-room, single-refused, single-accepted, zero-accepted}
 use Rattle.schedule.specs.Limits as limit
 use Rattle.machine.specs.Codes as code
 use Rattle.schedule.specs.declared.steps.FlatStep.{FlatStep}
@@ -72,6 +72,11 @@ single-exact {m} o Sound p u tested =
     record {
       enabled = λ s x log h g z. u .accepted-enabled s x g (zero-accepted m (p .sound) (p .room) s x log z);
       does = λ s x log h g e. single-accepted m (p .sound) (p .room) s x log h (tested s g) (accepted-code m s x (u .enabled-accepted s x g e));
+      reason = λ s x log h g n.
+          let z : codeOf m s x ≡ 0 → ⊥ = λ e. n (u .accepted-enabled s x g (code-accepted m s x e)) in
+          rw (single-refused m (p .sound) (p .room) s x log h (tested s g) (codeOf m s x) refl z) (code-fails m s x (codeOf m s x) refl z);
+      foreign = λ s log. single-foreign m (p .sound) (p .room) s log;
+      short = λ s x log h. single-room m (p .sound) (p .room) s x log h;
     }
 
 -- ---------- the codes of steps go from 11 to 18

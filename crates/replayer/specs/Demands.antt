@@ -2,14 +2,16 @@
 -- proofs/Demands.antt proves all three. The words used: `Leaves` and `Rested`, what a call answers and leaves (schedule specs/Answers, machine
 -- specs/Rest); `single`, one step on any state (machine specs/Single); `Exact` and `Upholds`, going by the source (machine specs/Sourced). Assumes nothing.
 use mathlib.Core.Path.{_≡_}
-use mathlib.Core.Bool.{Bool}
+use mathlib.Core.Bool.{Bool, cond}
 use mathlib.Core.Logic.{_⊎_}
 use mathlib.Core.List.{List, [], _++_}
-use mathlib.Core.Option.{Option, some}
+use mathlib.Core.Option.{Option, none, some}
 use Prim.Native.Nat.{ℕ, _+_, _*_, _≤_, _<_}
+use lib.Dec.{eqb}
 use lib.ListN.{length, take}
 use Rattle.rows.specs.Stores.{over}
-use Rattle.rows.specs.Walk.{pieces}
+use Rattle.rows.specs.Walk.{bit, pieces}
+use Rattle.machine.specs.Check.{FailsAt}
 use Rattle.machine.specs.Machine.{Machine}
 use Rattle.machine.specs.History.{logOf}
 use Rattle.machine.specs.Replay.{Replayed, after, past}
@@ -29,18 +31,22 @@ use Rattle.schedule.specs.declared.steps.FlatStep.{FlatStep}
 use Rattle.schedule.specs.declared.steps.LockStep.{LockStep}
 use Rattle.schedule.specs.declared.steps.CountingStep.{CountingStep}
 use Rattle.schedule.specs.declared.steps.FlagStep.{FlagStep}
+use Rattle.flat.specs.Source as flatSource
 use Rattle.flat.specs.Flat as flat
 use Rattle.flat.specs.Single as flatSingle
 use Rattle.flat.specs.Refined as flatTo
 use Rattle.flat.specs.Demand as flatDemand
+use Rattle.lock.specs.Source as lockSource
 use Rattle.lock.specs.Lock as lock
 use Rattle.lock.specs.Single as lockSingle
 use Rattle.lock.specs.Refined as lockTo
 use Rattle.lock.specs.Demand as lockDemand
+use Rattle.counting.specs.Source as countingSource
 use Rattle.counting.specs.Counting as counting
 use Rattle.counting.specs.Single as countingSingle
 use Rattle.counting.specs.Refined as countingTo
 use Rattle.counting.specs.Demand as countingDemand
+use Rattle.flag.specs.Source as flagSource
 use Rattle.flag.specs.Flag as flag
 use Rattle.flag.specs.Single as flagSingle
 use Rattle.flag.specs.Refined as flagTo
@@ -94,7 +100,8 @@ pub record Demand1 (f log image : List ℕ) : Type 0 where
   pub fault : (x : Fault) → decode f ≡ faulty x → replayOf f log image ≡ untouched (faultCode x) (faultPlace x) log image
   pub short : (s : Schedule) → decode f ≡ good s → (Room (steps# s) log image → ⊥) → replayOf f log image ≡ untouched code.room 0 log image
   pub long-enough : (s : Schedule) → decode f ≡ good s → Room (steps# s) log image → replayOf f log image .code ≡ code.room → ⊥
-  -- "A refused file leaves the log and state buffers untouched." A file is refused by 1 to 8; any other code is 0 or a step's, 11 to 18
+  -- "A refused file leaves the log and state buffers untouched." A file is refused by 1 to 8 (9 and 10 are no file's); any other code is
+  -- 0 or a step's, 11 to 18
   pub refused-file : let a = replayOf f log image in 1 ≤ a .code → a .code ≤ code.unsound → a ≡ untouched (a .code) (a .place) log image
   pub known : let c = replayOf f log image .code in (c ≡ 0) ⊎ ((1 ≤ c) × (c ≤ code.room)) ⊎ ((code.outside ≤ c) × (c ≤ code.full))
   -- nothing is written but entries and image, at the front of their buffers
@@ -114,7 +121,8 @@ pub record Demand1 (f log image : List ℕ) : Type 0 where
 
 -- ---------- 2
 
--- a file's answer a, in the machine's own words: what the replay `said` that goes exactly by the source, laid over the buffers
+-- a file's answer a, in the machine's own words: what the replay `said` that goes exactly by the source, laid over the buffers as the bytes that the runner
+-- has for entries and states: those of specs/Image.antt of each machine
 pub record Replays (p : Runner) (o : Sourced (p .machine)) (s₀ : p .machine .State) (xs : List (p .machine .Step)) (log image : List ℕ) (a : Rested) : Type 0 where
   pub said : Replayed (p .machine)
   pub exact : Exact o s₀ xs said
@@ -127,13 +135,19 @@ pub record Replays (p : Runner) (o : Sourced (p .machine)) (s₀ : p .machine .S
   -- the log is that of the history of the accepted steps, of which demand 3 speaks
   pub history : said .log ≡ logOf (past (p .machine) [] s₀ (take (said .place) xs))
 
--- a single step on a sound state, with a log buffer of the scope's size: 0 exactly when it is enabled, and then what the step does
+-- a single step on a sound state, with a log buffer of the scope's size: 0 exactly when it is enabled, and then what the step does; else the code of the
+-- first of its tests that fails. A step of another kind is 6, and too short a log buffer 8, whatever the state
 pub record SingleExact {m : Machine} (o : Sourced m) (Sound : m .State → Type 0) (p : Stepper m) : Type 0 where
   pub enabled : (s : m .State) (x : m .Step) (log : List ℕ) → p .room ≤ length log → Sound s → single m (p .sound) (p .room) s (some x) log .code ≡ 0
       → Enabled o s x
   pub does : (s : m .State) (x : m .Step) (log : List ℕ) → p .room ≤ length log → Sound s → Enabled o s x
       → single m (p .sound) (p .room) s (some x) log ≡ record { code = 0; state = m .next s x; wrote = m .logs s x }
+  pub reason : (s : m .State) (x : m .Step) (log : List ℕ) → p .room ≤ length log → Sound s → (Enabled o s x → ⊥)
+      → FailsAt (m .tests s x) (single m (p .sound) (p .room) s (some x) log .code)
+  pub foreign : (s : m .State) (log : List ℕ) → single m (p .sound) (p .room) s none log ≡ handedBack code.malformed s
+  pub short : (s : m .State) (x : m .Step) (log : List ℕ) → length log < p .room → single m (p .sound) (p .room) s (some x) log ≡ handedBack code.room s
 
+-- What a reason means: the codes 11 to 18 are those of the tests of specs/Counting, Lock, Flag and Flat, to be read against the scope's table
 pub record Demand2 (f log image : List ℕ) : Type 0 where
   -- "A step is accepted exactly when its transition in the source is enabled and the counter limit of document 01 isn't reached, and it then does what
   -- the source says": of every sound state
@@ -141,6 +155,11 @@ pub record Demand2 (f log image : List ℕ) : Type 0 where
   pub step-lock : Upholds lockTo.distRwLock lockTo.Sound
   pub step-counting : Upholds countingTo.countingPermissions countingTo.Sound
   pub step-flag : Upholds flagTo.helping flagTo.Sound
+  -- a fresh machine is the source's initial state
+  pub initial-flat : (n : ℕ) → n ≤ limit.clients → flatTo.abs (flat.freshState n) ≡ flatSource.initialize n
+  pub initial-lock : (w t : ℕ) → 1 ≤ w → w ≤ limit.width → lockSource.Initialize w t (lockTo.abs (lock.freshState w t))
+  pub initial-counting : countingTo.abs counting.freshState ≡ countingSource.new
+  pub initial-flag : (n : ℕ) (v : Bool) → flagTo.abs (flag.freshState n v) ≡ flagSource.new n v
   -- and all that a schedule reaches are sound: fresh machines are, and `Upholds` says that accepted steps keep it
   pub fresh-flat : (n : ℕ) → n ≤ limit.clients → flatTo.Sound (flat.freshState n)
   pub fresh-lock : (w t : ℕ) → 1 ≤ w → w ≤ limit.width → lockTo.Sound (lock.freshState w t)
@@ -173,16 +192,33 @@ pub record Demand3 (f : List ℕ) : Type 0 where
   pub cells : (w t : ℕ) (xs ys zs : List LockStep) → decode f ≡ good (ofLock w t xs) → xs ≡ ys ++ zs → AllEnabled lockTo.distRwLock (lock.freshState w t) ys
       → let h = past lock.lock [] (lock.freshState w t) ys in
       (r : ℕ) → lock.cell (after lock.lock (lock.freshState w t) ys) r .count + lockDemand.sharedReleases h r ≡ lockDemand.sharedStarts h r
+  -- the guards that stand, counted: "those at r that carry t are the logged shared_finishes of r and t less the accepted shared_releases"
+  pub guards-counted : (w t : ℕ) (xs ys zs : List LockStep) → decode f ≡ good (ofLock w t xs) → xs ≡ ys ++ zs
+      → AllEnabled lockTo.distRwLock (lock.freshState w t) ys
+      → let h = past lock.lock [] (lock.freshState w t) ys in let s = after lock.lock (lock.freshState w t) ys in
+      ((r u : ℕ) → lockDemand.handedOut h r u ≡ lockDemand.givenBack h r u + cond (eqb u (lockDemand.inForce t h)) (lock.cell s r .guards) 0)
+      × (lockDemand.taken h ≡ lockDemand.returned h + bit (s .head .guard))
   -- "a client's k-th answer belongs to its k-th request, with that request's id and the payload of the one combiner send made for it"
   pub answers : (n : ℕ) (xs ys zs : List FlatStep) → decode f ≡ good (ofFlat n xs) → xs ≡ ys ++ zs → AllEnabled flatTo.flatCombine (flat.freshState n) ys
       → flatDemand.Demand (past flat.flat [] (flat.freshState n) ys)
   -- the counting machine's share: each reference that is held carries the stored value
   pub references : (xs ys zs : List CountingStep) → decode f ≡ good (ofCounting xs) → xs ≡ ys ++ zs → AllEnabled countingTo.countingPermissions counting.freshState ys
       → countingDemand.Demand (past counting.counting [] counting.freshState ys)
+  pub references-counted : (xs ys zs : List CountingStep) → decode f ≡ good (ofCounting xs) → xs ≡ ys ++ zs
+      → AllEnabled countingTo.countingPermissions counting.freshState ys
+      → let h = past counting.counting [] counting.freshState ys in let s = after counting.counting counting.freshState ys in
+      ((u : ℕ) → countingDemand.granted h u ≡ countingDemand.deleted h u + cond (eqb u (s .t)) (s .refs) 0)
+      × (countingDemand.stored h ≡ cond (s .present) (some (s .t)) none)
   -- "each finished flip, also a helped or cancelled one, is logged once, by a step after its beginning and not after its end, an unfinished one at most
   -- once; each read shows the initial value turned once for every flip logged before it"
   pub flips : (n : ℕ) (v : Bool) (xs ys zs : List FlagStep) → decode f ≡ good (ofFlag n v xs) → xs ≡ ys ++ zs → AllEnabled flagTo.helping (flag.freshState n v) ys
       → flagDemand.Demand (flag.freshState n v) v (past flag.flag [] (flag.freshState n v) ys)
+  -- what each thread still owes, and the value
+  pub flips-owed : (n : ℕ) (v : Bool) (xs ys zs : List FlagStep) → decode f ≡ good (ofFlag n v xs) → xs ≡ ys ++ zs
+      → AllEnabled flagTo.helping (flag.freshState n v) ys
+      → let h = past flag.flag [] (flag.freshState n v) ys in let s = after flag.flag (flag.freshState n v) ys in
+      ((k : ℕ) → flagDemand.begins h k ≡ flagDemand.flips h k + flagDemand.owed (flag.place s k) (s .pending))
+      × (s .value ≡ flagDemand.turned (flagDemand.allFlips h) v)
   -- "A flip whose thread moves alone ends within five moves."
   pub alone : (n : ℕ) (v : Bool) (xs ys zs : List FlagStep) → decode f ≡ good (ofFlag n v xs) → xs ≡ ys ++ zs → AllEnabled flagTo.helping (flag.freshState n v) ys
       → (k : ℕ) → k < n → flagTo.EndsWithin k 5 (after flag.flag (flag.freshState n v) ys)

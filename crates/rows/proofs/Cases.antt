@@ -3,14 +3,16 @@ use mathlib.Core.Path.{_≡_, refl}
 use mathlib.Core.Bool.{Bool, true, false, _&&_}
 use Prim.Native.Nat.{ℕ, _+_}
 use native.Mathlib.Omega.{arith}
-use borrow.Author.Tests.{eqb-true, eqb-false}
-use lib.Dec.{eqb}
 use Rattle.rows.specs.Walk.{tick, bit}
 
 -- the two cases of a test, each with its equation
 pub on : {P : Type 0} (b : Bool) → (b ≡ true → P) → (b ≡ false → P) → P
 on true f g = f refl
 on false f g = g refl
+
+-- a test that cannot hold fails
+pub cannot : (b : Bool) → (b ≡ true → ⊥) → b ≡ false
+cannot b n = on b (λ e. absurd (n e)) (λ e. e)
 
 -- what cannot be
 pub clash : {P : Type 0} → _≡_ {A = ℕ} 0 1 → P
@@ -27,11 +29,3 @@ true-both p q = rw (p, q)
 pub tick-bit : (b : Bool) (n : ℕ) → tick b n ≡ n + bit b
 tick-bit true n = omega arith
 tick-bit false n = omega arith
-
--- equality of numbers, decided by `eqb`, so that it computes at numerals
-abbrev eq-or-not : (m n : ℕ) (b : Bool) → eqb m n ≡ b → Dec (m ≡ n)
-eq-or-not m n true e = yes (eqb-true m n e)
-eq-or-not m n false e = no (eqb-false m n e)
-
-abbrev pub ℕ-dec : Discrete ℕ
-ℕ-dec m n = eq-or-not m n (eqb m n) refl

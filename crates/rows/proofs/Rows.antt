@@ -1,10 +1,10 @@
 -- What is left of a row, and of its first entries, over its length and the type of its entries. Assumes nothing.
-use mathlib.Core.Path.{_≡_, sym, _∙_}
+use mathlib.Core.Path.{_≡_, refl, sym, _∙_}
 use mathlib.Core.List.{List, [], _∷_, map}
-use Prim.Native.Nat.{ℕ, _+_, _≤_, _<_}
+use Prim.Native.Nat.{ℕ, zero, suc, _+_, _≤_, _<_}
 use native.Mathlib.Numerals.{add-one}
 use native.Mathlib.Omega.{arith}
-use lib.ListN.{length, getD, take, drop, length-map, length-take, drop-of-length-le}
+use lib.ListN.{length, getD, take, drop, replicate, length-map, length-take, drop-of-length-le}
 use lib.Seq.{drop-cons, getD-take, length-take-le}
 
 -- what owning a struct tells of a field that is an array of structs: its list is as long as the array
@@ -12,6 +12,12 @@ pub row-long : {X Y : Type 0} (f : X → Y) (l : List X) (n : ℕ) → length (m
 row-long f l n p = sym (length-map l f) ∙ p
 
 module _ {A : Type 0} where
+  -- a row of one entry alone
+  pub getD-replicate : (n i : ℕ) (a : A) → getD (replicate n a) i a ≡ a
+  getD-replicate zero i a = refl
+  getD-replicate (suc n) zero a = refl
+  getD-replicate (suc n) (suc i) a = getD-replicate n i a
+
   -- the head of what is left, and the end
   pub drop-one : (l : List A) (i : ℕ) (d : A) → i < length l → drop i l ≡ getD l i d ∷ drop (i + 1) l
   drop-one l i d h = drop-cons l i d h ∙ rw (← add-one i)

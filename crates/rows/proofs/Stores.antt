@@ -124,3 +124,7 @@ module _ (l : List ℕ) (at : ℕ) (bs : List ℕ) where
 
   pub too-far : length bs ≤ length l → length l - length bs < at → Laid l at bs at l
   too-far h p = none-laid l at bs (omega arith)
+
+-- what is laid down of a value that was matched
+pub laid-same : {A : Type 0} (bytes : A → List ℕ) (a b : A) (l : List ℕ) (at r : ℕ) (l′ : List ℕ) → a ≡ b → Laid l at (bytes b) r l′ → Laid l at (bytes a) r l′
+laid-same bytes a b l at r l′ e d = rw e d

@@ -22,9 +22,3 @@ module _ {A : Type 0} (f : ℕ → ℕ → A → Bool) (n : ℕ) where
       let row = getD rows k [] in
       let b = both-true (eqb (length row) n) (every (f k) 0 row) (every-at everyRow [] rows e k h) in
       every-at (f k) d row (b .1) t (rw (eqb-true (length row) n (b .0)) l)
-
-  -- and each row is n long
-  pub table-long : (rows : List (List A)) → every everyRow 0 rows ≡ true → (k : ℕ) → k < length rows → length (getD rows k []) ≡ n
-  table-long rows e k h =
-      let row = getD rows k [] in
-      eqb-true (length row) n (both-true (eqb (length row) n) (every (f k) 0 row) (every-at everyRow [] rows e k h) .0)

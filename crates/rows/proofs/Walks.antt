@@ -5,10 +5,12 @@ use mathlib.Core.List.{List, [], _∷_, _++_, append-assoc}
 use Prim.Native.Nat.{ℕ, zero, suc, _+_, _*_, _≤_, _<_, suc-le-suc}
 use native.Mathlib.Nat.{add-zero, zero-add, add-assoc, suc-mul, zero-mul, le-of-suc-le-suc, not-suc-le-zero}
 use native.Mathlib.Omega.{arith}
+use borrow.Author.Tests.{ltb-true}
+use lib.Dec.{ltb}
 use lib.ListN.{length, getD, drop, take, set, length-append}
 use Rattle.rows.specs.Stores.{puts}
-use Rattle.rows.specs.Walk.{every, folded, sum, many, pieces}
-use Rattle.rows.proofs.Cases.{both-true, true-both}
+use Rattle.rows.specs.Walk.{every, folded, sum, many, pieces, atMost}
+use Rattle.rows.proofs.Cases.{on, both-true, true-both}
 use Rattle.rows.proofs.Rows.{drop-one, drop-end, first-one, first-none}
 use Rattle.rows.proofs.Stores.{puts-append}
 
@@ -153,3 +155,8 @@ module _ {A B : Type 0} (f : A → List B) where
   -- pieces of one size
   pub pieces-even : (k : ℕ) → ((x : A) → length (f x) ≡ k) → (xs : List A) → length (pieces f xs) ≡ length xs * k
   pieces-even k e xs = length-pieces xs ∙ sum-const (λ x. length (f x)) k e xs
+
+-- ---------- no more than a limit
+
+pub at-most : (limit n : ℕ) → atMost limit n ≤ limit
+at-most limit n = on (ltb n limit) (λ b. rw b (omega (arith, ltb-true n limit b))) (λ b. rw b (omega arith))

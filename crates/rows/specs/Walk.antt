@@ -1,7 +1,8 @@
 -- Walks over a row: a test of every entry, a count, a sum, a fold, a piece for each entry. Assumes nothing.
 use Prim.Native.Nat.{ℕ, suc, _+_}
-use mathlib.Core.Bool.{Bool, true, false, _&&_}
+use mathlib.Core.Bool.{Bool, true, false, cond, _&&_}
 use mathlib.Core.List.{List, [], _∷_, _++_}
+use lib.Dec.{ltb}
 
 -- the test f passes at each entry and its place, counted from i
 abbrev pub every : {A : Type 0} → (ℕ → A → Bool) → ℕ → List A → Bool
@@ -37,3 +38,7 @@ bit false = 0
 abbrev pub many : {A : Type 0} → (A → Bool) → List A → ℕ
 many p [] = 0
 many p (x ∷ xs) = tick (p x) (many p xs)
+
+-- n, but no more than the limit: how many entries of a row are walked
+abbrev pub atMost : ℕ → ℕ → ℕ
+atMost limit n = cond (ltb n limit) n limit

@@ -16,14 +16,14 @@ use Rattle.machine.specs.Single.{Singled}
 use Rattle.schedule.specs.Limits as limit
 use Rattle.schedule.specs.Widths as kinds
 use Rattle.schedule.specs.declared.steps.Step.{Step}
-use Rattle.counting.specs.declared.state.State as counting-state
-use Rattle.counting.specs.declared.single.Answer as counting-answer
-use Rattle.lock.specs.declared.state.State as lock-state
-use Rattle.lock.specs.declared.single.Answer as lock-answer
-use Rattle.flag.specs.declared.state.State as flag-state
-use Rattle.flag.specs.declared.single.Answer as flag-answer
-use Rattle.flat.specs.declared.state.State as flat-state
-use Rattle.flat.specs.declared.single.Answer as flat-answer
+use Rattle.counting.specs.declared.state.State as countingState
+use Rattle.counting.specs.declared.single.Answer as countingAnswer
+use Rattle.lock.specs.declared.state.State as lockState
+use Rattle.lock.specs.declared.single.Answer as lockAnswer
+use Rattle.flag.specs.declared.state.State as flagState
+use Rattle.flag.specs.declared.single.Answer as flagAnswer
+use Rattle.flat.specs.declared.state.State as flatState
+use Rattle.flat.specs.declared.single.Answer as flatAnswer
 use Rattle.raw.proofs.Writes.{lock-length, flag-length, flat-length}
 use Rattle.single_call.specs.Call.{askedBy, unlogged, RawStepper, StepLeaves, singleFrom, stepped, steppedBy, exported, ExportLeaves, flatRaw, lockRaw, countingRaw, flagRaw}
 use Rattle.single_call.specs.declared.Called.{Called}
@@ -69,7 +69,7 @@ module _ {m : Machine} (w : RawStepper m) (raw : List ℕ) (x : w .stepper .Any)
 
 -- ---------- each machine, its answer a as its promise d tells it
 
-module _ (raw : List ℕ) (x : Step) (log : List ℕ) (s : flat-state.State) (a : flat-answer.Answer) (log′ : List ℕ) (long : length raw ≡ flatRaw .long) (from : s ≡ flatRaw .from raw)
+module _ (raw : List ℕ) (x : Step) (log : List ℕ) (s : flatState.State) (a : flatAnswer.Answer) (log′ : List ℕ) (long : length raw ≡ flatRaw .long) (from : s ≡ flatRaw .from raw)
     (d : Singled (flatRaw .stepper) s x log a log′) where
   flat-answered : Answered flatRaw raw x log (a .state) (a .logged) (a .code) log′
   flat-answered =
@@ -83,7 +83,7 @@ module _ (raw : List ℕ) (x : Step) (log : List ℕ) (s : flat-state.State) (a 
       → Laid raw 0 (flatRaw .bytes (a .state)) r raw′ → StepLeaves (stepped flatRaw raw x log) log (record { logged = a .logged; code = a .code }) raw′ log′
   flat-accepted z p q = accepted flatRaw raw x log (a .state) (a .logged) (a .code) log′ flat-answered z (flat-length (a .state) p q)
 
-module _ (raw : List ℕ) (x : Step) (log : List ℕ) (s : lock-state.State) (a : lock-answer.Answer) (log′ : List ℕ) (long : length raw ≡ lockRaw .long) (from : s ≡ lockRaw .from raw)
+module _ (raw : List ℕ) (x : Step) (log : List ℕ) (s : lockState.State) (a : lockAnswer.Answer) (log′ : List ℕ) (long : length raw ≡ lockRaw .long) (from : s ≡ lockRaw .from raw)
     (d : Singled (lockRaw .stepper) s x log a log′) where
   lock-answered : Answered lockRaw raw x log (a .state) (a .logged) (a .code) log′
   lock-answered =
@@ -97,7 +97,7 @@ module _ (raw : List ℕ) (x : Step) (log : List ℕ) (s : lock-state.State) (a 
       → StepLeaves (stepped lockRaw raw x log) log (record { logged = a .logged; code = a .code }) raw′ log′
   lock-accepted z p = accepted lockRaw raw x log (a .state) (a .logged) (a .code) log′ lock-answered z (lock-length (a .state) p)
 
-module _ (raw : List ℕ) (x : Step) (log : List ℕ) (s : counting-state.State) (a : counting-answer.Answer) (log′ : List ℕ) (long : length raw ≡ countingRaw .long)
+module _ (raw : List ℕ) (x : Step) (log : List ℕ) (s : countingState.State) (a : countingAnswer.Answer) (log′ : List ℕ) (long : length raw ≡ countingRaw .long)
     (from : s ≡ countingRaw .from raw) (d : Singled (countingRaw .stepper) s x log a log′) where
   counting-answered : Answered countingRaw raw x log (a .state) (a .logged) (a .code) log′
   counting-answered =
@@ -111,7 +111,7 @@ module _ (raw : List ℕ) (x : Step) (log : List ℕ) (s : counting-state.State)
       → StepLeaves (stepped countingRaw raw x log) log (record { logged = a .logged; code = a .code }) raw′ log′
   counting-accepted z = accepted countingRaw raw x log (a .state) (a .logged) (a .code) log′ counting-answered z refl
 
-module _ (raw : List ℕ) (x : Step) (log : List ℕ) (s : flag-state.State) (a : flag-answer.Answer) (log′ : List ℕ) (long : length raw ≡ flagRaw .long) (from : s ≡ flagRaw .from raw)
+module _ (raw : List ℕ) (x : Step) (log : List ℕ) (s : flagState.State) (a : flagAnswer.Answer) (log′ : List ℕ) (long : length raw ≡ flagRaw .long) (from : s ≡ flagRaw .from raw)
     (d : Singled (flagRaw .stepper) s x log a log′) where
   flag-answered : Answered flagRaw raw x log (a .state) (a .logged) (a .code) log′
   flag-answered =

@@ -16,13 +16,13 @@ use Rattle.schedule.specs.Finding.{foundAt}
 use Rattle.schedule.specs.declared.read.Found.{Found}
 use Rattle.schedule.specs.declared.read.Found.the-variants.{End, Broken, Whole}
 use Rattle.counting.specs.Counting.{counting}
-use Rattle.counting.specs.Single as counting-single
+use Rattle.counting.specs.Single as countingSingle
 use Rattle.lock.specs.Lock.{lock}
-use Rattle.lock.specs.Single as lock-single
+use Rattle.lock.specs.Single as lockSingle
 use Rattle.flag.specs.Flag.{flag}
-use Rattle.flag.specs.Single as flag-single
+use Rattle.flag.specs.Single as flagSingle
 use Rattle.flat.specs.Flat.{flat}
-use Rattle.flat.specs.Single as flat-single
+use Rattle.flat.specs.Single as flatSingle
 use Rattle.raw.specs.Raw.{byteAt, countingLong, countingFrom, countingBytes, lockLong, lockFrom, lockBytes, flagLong, flagFrom, flagBytes, flatLong, flatFrom, flatBytes}
 use Rattle.single_call.specs.declared.Called.{Called}
 use Rattle.single_call.specs.declared.Asked.{Asked}
@@ -70,16 +70,16 @@ module _ {m : Machine} (w : RawStepper m) where
   stepped raw x log = cond (eqb (length raw) (w .long)) (steppedAs raw (singleFrom raw x log)) (unchanged code.malformed raw)
 
 abbrev pub flatRaw : RawStepper flat
-flatRaw = record { stepper = flat-single.stepper; long = flatLong; from = flatFrom; bytes = flatBytes }
+flatRaw = record { stepper = flatSingle.stepper; long = flatLong; from = flatFrom; bytes = flatBytes }
 
 abbrev pub lockRaw : RawStepper lock
-lockRaw = record { stepper = lock-single.stepper; long = lockLong; from = lockFrom; bytes = lockBytes }
+lockRaw = record { stepper = lockSingle.stepper; long = lockLong; from = lockFrom; bytes = lockBytes }
 
 abbrev pub countingRaw : RawStepper counting
-countingRaw = record { stepper = counting-single.stepper; long = countingLong; from = countingFrom; bytes = countingBytes }
+countingRaw = record { stepper = countingSingle.stepper; long = countingLong; from = countingFrom; bytes = countingBytes }
 
 abbrev pub flagRaw : RawStepper flag
-flagRaw = record { stepper = flag-single.stepper; long = flagLong; from = flagFrom; bytes = flagBytes }
+flagRaw = record { stepper = flagSingle.stepper; long = flagLong; from = flagFrom; bytes = flagBytes }
 
 -- a kind, a state, a step or none, a log buffer
 abbrev pub steppedBy : ℕ → List ℕ → Asked → List ℕ → Stepped

@@ -4,7 +4,8 @@ use borrow.Author.Needs.{needs}
 use Rattle.schedule.proofs.Running.{Runs, starts, ends}
 use Rattle.counting_run.specs.Run.{runner}
 use Rattle.counting_run.proofs.Carried.{carries}
-use Rattle.counting_run.proofs.Turns.{stops, write-turn, delete-turn, withdraw-turn, new-turn, write-ahead, delete-ahead, withdraw-ahead, new-ahead}
+use Rattle.counting_run.proofs.Turns.{refused, writeable-to-readable-turn, readable-to-writeable-turn, new-ref-turn, delete-ref-turn}
+use Rattle.counting_run.proofs.Turns.{writeable-to-readable-ahead, readable-to-writeable-ahead, new-ref-ahead, delete-ref-ahead}
 use Rattle.counting_run.proofs.run.Statement.{statement}
 use Rattle.counting_run.proofs.run.Tie as tie
 
@@ -27,7 +28,7 @@ writeable-to-readable-requires : tie.Need-writeable-to-readable-requires Inv-loo
 writeable-to-readable-requires c κs = search needs
 
 add-at : tie.Need-add-at Inv-loop μ-loop
-add-at c = search write-ahead
+add-at c = search writeable-to-readable-ahead
 
 add-k : tie.Need-add-k Inv-loop μ-loop
 add-k c = search needs
@@ -36,7 +37,7 @@ loop-less : tie.Need-loop-less Inv-loop μ-loop
 loop-less c = search needs
 
 loop-again : tie.Need-loop-again Inv-loop μ-loop
-loop-again c = search write-turn
+loop-again c = search writeable-to-readable-turn
 
 enum-told : tie.Need-enum-told Inv-loop μ-loop
 enum-told c = search needs
@@ -48,7 +49,7 @@ put-entry-requires : tie.Need-put-entry-requires Inv-loop μ-loop
 put-entry-requires c κs = search needs
 
 add-at-2 : tie.Need-add-at-2 Inv-loop μ-loop
-add-at-2 c = search withdraw-ahead
+add-at-2 c = search readable-to-writeable-ahead
 
 add-k-2 : tie.Need-add-k-2 Inv-loop μ-loop
 add-k-2 c = search needs
@@ -57,7 +58,7 @@ loop-less-2 : tie.Need-loop-less-2 Inv-loop μ-loop
 loop-less-2 c = search needs
 
 loop-again-2 : tie.Need-loop-again-2 Inv-loop μ-loop
-loop-again-2 c = search withdraw-turn
+loop-again-2 c = search readable-to-writeable-turn
 
 enum-told-2 : tie.Need-enum-told-2 Inv-loop μ-loop
 enum-told-2 c = search needs
@@ -69,7 +70,7 @@ put-entry-requires-2 : tie.Need-put-entry-requires-2 Inv-loop μ-loop
 put-entry-requires-2 c κs = search needs
 
 add-at-3 : tie.Need-add-at-3 Inv-loop μ-loop
-add-at-3 c = search new-ahead
+add-at-3 c = search new-ref-ahead
 
 add-k-3 : tie.Need-add-k-3 Inv-loop μ-loop
 add-k-3 c = search needs
@@ -78,7 +79,7 @@ loop-less-3 : tie.Need-loop-less-3 Inv-loop μ-loop
 loop-less-3 c = search needs
 
 loop-again-3 : tie.Need-loop-again-3 Inv-loop μ-loop
-loop-again-3 c = search new-turn
+loop-again-3 c = search new-ref-turn
 
 enum-known-step-2 : tie.Need-enum-known-step-2 Inv-loop μ-loop
 enum-known-step-2 c = search needs
@@ -87,7 +88,7 @@ delete-ref-requires : tie.Need-delete-ref-requires Inv-loop μ-loop
 delete-ref-requires c κs = search needs
 
 add-at-4 : tie.Need-add-at-4 Inv-loop μ-loop
-add-at-4 c = search delete-ahead
+add-at-4 c = search delete-ref-ahead
 
 add-k-4 : tie.Need-add-k-4 Inv-loop μ-loop
 add-k-4 c = search needs
@@ -96,7 +97,7 @@ loop-less-4 : tie.Need-loop-less-4 Inv-loop μ-loop
 loop-less-4 c = search needs
 
 loop-again-4 : tie.Need-loop-again-4 Inv-loop μ-loop
-loop-again-4 c = search delete-turn
+loop-again-4 c = search delete-ref-turn
 
 same-length : tie.Need-same-length Inv-loop μ-loop
 same-length c = search needs
@@ -108,25 +109,25 @@ same-length-2 : tie.Need-same-length-2 Inv-loop μ-loop
 same-length-2 c = search needs
 
 returns-2 : tie.Need-returns-2 Inv-loop μ-loop
-returns-2 c = search stops
+returns-2 c = search refused
 
 same-length-3 : tie.Need-same-length-3 Inv-loop μ-loop
 same-length-3 c = search needs
 
 returns-3 : tie.Need-returns-3 Inv-loop μ-loop
-returns-3 c = search stops
+returns-3 c = search refused
 
 same-length-4 : tie.Need-same-length-4 Inv-loop μ-loop
 same-length-4 c = search needs
 
 returns-4 : tie.Need-returns-4 Inv-loop μ-loop
-returns-4 c = search stops
+returns-4 c = search refused
 
 same-length-5 : tie.Need-same-length-5 Inv-loop μ-loop
 same-length-5 c = search needs
 
 returns-5 : tie.Need-returns-5 Inv-loop μ-loop
-returns-5 c = search stops
+returns-5 c = search refused
 
 pub run-spec : {M : Type 1} → statement M
 run-spec =

@@ -67,8 +67,8 @@ element-copy-out-p-2 c = search inside-row
 may-move-requires : tie.Need-may-move-requires Inv-loop μ-loop
 may-move-requires c κs = search needs
 
-exchange-requires : tie.Need-exchange-requires Inv-loop μ-loop
-exchange-requires c κs = search needs
+go-on-requires : tie.Need-go-on-requires Inv-loop μ-loop
+go-on-requires c κs = search needs
 
 put-flips-requires : tie.Need-put-flips-requires Inv-loop μ-loop
 put-flips-requires c κs = search needs
@@ -183,7 +183,7 @@ run-spec =
     cast-i-2
     element-copy-out-p-2
     may-move-requires
-    exchange-requires
+    go-on-requires
     put-flips-requires
     element-write-s-2
     add-at-2

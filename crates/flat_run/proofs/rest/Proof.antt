@@ -2,7 +2,7 @@
 use borrow.Author.Needs.{needs}
 use Rattle.schedule.proofs.Running.{counts, faulty-leaves}
 use Rattle.flat_run.specs.Run.{runner}
-use Rattle.flat_run.proofs.Carried.{carries, fresh-good, bad-rest, made-rest}
+use Rattle.flat_run.proofs.Carried.{carries, fresh-good, fresh-refused, fresh-leaves}
 use Rattle.flat_run.proofs.rest.Statement.{statement}
 use Rattle.flat_run.proofs.rest.Tie as tie
 
@@ -13,7 +13,7 @@ refused-requires : tie.Need-refused-requires
 refused-requires c κs = search needs
 
 returns : tie.Need-returns
-returns c = search bad-rest
+returns c = search fresh-refused
 
 count-requires : tie.Need-count-requires
 count-requires c κs = search needs
@@ -37,7 +37,7 @@ replayed-requires : tie.Need-replayed-requires
 replayed-requires c κs = search (counts, fresh-good)
 
 returns-2 : tie.Need-returns-2
-returns-2 c = search (made-rest, faulty-leaves runner carries)
+returns-2 c = search (fresh-leaves, faulty-leaves runner carries)
 
 same-length : tie.Need-same-length
 same-length c = search needs
@@ -46,7 +46,7 @@ same-length-2 : tie.Need-same-length-2
 same-length-2 c = search needs
 
 returns-3 : tie.Need-returns-3
-returns-3 c = search made-rest
+returns-3 c = search fresh-leaves
 
 pub rest-spec : {M : Type 1} → statement M
 rest-spec =

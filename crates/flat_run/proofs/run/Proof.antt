@@ -7,9 +7,11 @@ use Rattle.flat.proofs.Arms.{stopped}
 use Rattle.flat.proofs.Sounds.{means-sound}
 use Rattle.flat_run.specs.Run.{runner}
 use Rattle.flat_run.proofs.Carried.{carries}
-use Rattle.flat_run.proofs.Turns.{send-next, send-stop, send-turn, recv-next, recv-stop, recv-turn, gather-next, gather-stop, gather-turn}
-use Rattle.flat_run.proofs.Turns.{skip-next, skip-turn, respond-next, respond-turn, answer-next, answer-stop, answer-turn}
-use Rattle.flat_run.proofs.Turns.{pass-next, pass-stop, pass-turn, collect-next, collect-turn}
+use Rattle.flat_run.proofs.Turns.{client-send-ahead, client-send-refused, client-send-turn, client-recv-ahead, client-recv-refused, client-recv-turn}
+use Rattle.flat_run.proofs.Turns.{combiner-recv-ahead, combiner-recv-refused, combiner-recv-turn, combiner-skip-ahead, combiner-skip-turn}
+use Rattle.flat_run.proofs.Turns.{combiner-go-to-responding-ahead, combiner-go-to-responding-turn, combiner-send-ahead, combiner-send-refused, combiner-send-turn}
+use Rattle.flat_run.proofs.Turns.{combiner-send-skip-ahead, combiner-send-skip-refused, combiner-send-skip-turn}
+use Rattle.flat_run.proofs.Turns.{combiner-go-to-collecting-ahead, combiner-go-to-collecting-turn}
 use Rattle.flat_run.proofs.run.Statement.{statement}
 use Rattle.flat_run.proofs.run.Tie as tie
 
@@ -31,10 +33,10 @@ element-set-from-d : tie.Need-element-set-from-d Inv-loop μ-loop
 element-set-from-d c = search (client-inside, means-sound)
 
 add-at : tie.Need-add-at Inv-loop μ-loop
-add-at c = search send-next
+add-at c = search client-send-ahead
 
 loop-again : tie.Need-loop-again Inv-loop μ-loop
-loop-again c = search send-turn
+loop-again c = search client-send-turn
 
 -- client_recv
 element-copy-out-c-2 : tie.Need-element-copy-out-c-2 Inv-loop μ-loop
@@ -44,10 +46,10 @@ element-set-from-d-2 : tie.Need-element-set-from-d-2 Inv-loop μ-loop
 element-set-from-d-2 c = search (client-inside, means-sound)
 
 add-at-2 : tie.Need-add-at-2 Inv-loop μ-loop
-add-at-2 c = search recv-next
+add-at-2 c = search client-recv-ahead
 
 loop-again-2 : tie.Need-loop-again-2 Inv-loop μ-loop
-loop-again-2 c = search recv-turn
+loop-again-2 c = search client-recv-turn
 
 -- combiner_recv
 element-copy-out-c-3 : tie.Need-element-copy-out-c-3 Inv-loop μ-loop
@@ -63,10 +65,10 @@ add-s : tie.Need-add-s Inv-loop μ-loop
 add-s c = search (gather-fits, means-sound)
 
 add-at-3 : tie.Need-add-at-3 Inv-loop μ-loop
-add-at-3 c = search gather-next
+add-at-3 c = search combiner-recv-ahead
 
 loop-again-3 : tie.Need-loop-again-3 Inv-loop μ-loop
-loop-again-3 c = search gather-turn
+loop-again-3 c = search combiner-recv-turn
 
 -- combiner_skip
 element-set-from-e-2 : tie.Need-element-set-from-e-2 Inv-loop μ-loop
@@ -76,17 +78,17 @@ add-s-2 : tie.Need-add-s-2 Inv-loop μ-loop
 add-s-2 c = search (gather-fits, means-sound)
 
 add-at-4 : tie.Need-add-at-4 Inv-loop μ-loop
-add-at-4 c = search skip-next
+add-at-4 c = search combiner-skip-ahead
 
 loop-again-4 : tie.Need-loop-again-4 Inv-loop μ-loop
-loop-again-4 c = search skip-turn
+loop-again-4 c = search combiner-skip-turn
 
 -- combiner_go_to_responding
 add-at-5 : tie.Need-add-at-5 Inv-loop μ-loop
-add-at-5 c = search respond-next
+add-at-5 c = search combiner-go-to-responding-ahead
 
 loop-again-5 : tie.Need-loop-again-5 Inv-loop μ-loop
-loop-again-5 c = search respond-turn
+loop-again-5 c = search combiner-go-to-responding-turn
 
 -- combiner_send
 cast-i-5 : tie.Need-cast-i-5 Inv-loop μ-loop
@@ -114,10 +116,10 @@ add-s-3 : tie.Need-add-s-3 Inv-loop μ-loop
 add-s-3 c = search (answer-fits, means-sound)
 
 add-at-6 : tie.Need-add-at-6 Inv-loop μ-loop
-add-at-6 c = search answer-next
+add-at-6 c = search combiner-send-ahead
 
 loop-again-6 : tie.Need-loop-again-6 Inv-loop μ-loop
-loop-again-6 c = search answer-turn
+loop-again-6 c = search combiner-send-turn
 
 -- combiner_send_skip
 cast-i-6 : tie.Need-cast-i-6 Inv-loop μ-loop
@@ -133,17 +135,17 @@ add-s-4 : tie.Need-add-s-4 Inv-loop μ-loop
 add-s-4 c = search (answer-fits, means-sound)
 
 add-at-7 : tie.Need-add-at-7 Inv-loop μ-loop
-add-at-7 c = search pass-next
+add-at-7 c = search combiner-send-skip-ahead
 
 loop-again-7 : tie.Need-loop-again-7 Inv-loop μ-loop
-loop-again-7 c = search pass-turn
+loop-again-7 c = search combiner-send-skip-turn
 
 -- combiner_go_to_collecting
 add-at-8 : tie.Need-add-at-8 Inv-loop μ-loop
-add-at-8 c = search collect-next
+add-at-8 c = search combiner-go-to-collecting-ahead
 
 loop-again-8 : tie.Need-loop-again-8 Inv-loop μ-loop
-loop-again-8 c = search collect-turn
+loop-again-8 c = search combiner-go-to-collecting-turn
 
 -- the ways out: the end, and a refusal at each test
 returns : tie.Need-returns Inv-loop μ-loop
@@ -153,13 +155,13 @@ returns-2 : tie.Need-returns-2 Inv-loop μ-loop
 returns-2 c = search (stops runner carries, stopped)
 
 returns-3 : tie.Need-returns-3 Inv-loop μ-loop
-returns-3 c = search send-stop
+returns-3 c = search client-send-refused
 
 returns-4 : tie.Need-returns-4 Inv-loop μ-loop
 returns-4 c = search (stops runner carries, stopped)
 
 returns-5 : tie.Need-returns-5 Inv-loop μ-loop
-returns-5 c = search recv-stop
+returns-5 c = search client-recv-refused
 
 returns-6 : tie.Need-returns-6 Inv-loop μ-loop
 returns-6 c = search (stops runner carries, stopped)
@@ -170,7 +172,7 @@ returns-7 c =
     let test = move .before .before in
     let told = test .before .before in
     let read = told .before .before in
-    gather-stop _ _ _ _ _ _ _ _ _ _ _ (read .before .before .loop .inv) (read .before .if1 .left) _ (read .flat-step .ensures) (told .enum-told .given .1)
+    combiner-recv-refused _ _ _ _ _ _ _ _ _ _ _ (read .before .before .loop .inv) (read .before .if1 .left) _ (read .flat-step .ensures) (told .enum-told .given .1)
     _ (test .before .may-gather .ensures) (test .if6 .left) _ (move .combiner-recv .ensures) (c .if7 .taken)
 
 returns-8 : tie.Need-returns-8 Inv-loop μ-loop
@@ -188,7 +190,7 @@ returns-11 c =
     let test = move .before .before .before in
     let told = test .before .before .before in
     let read = told .before .before in
-    answer-stop _ _ _ _ _ _ _ _ _ _ _ (read .before .before .loop .inv) (read .before .if1 .left) _ (read .flat-step .ensures) _ _ (told .step3 .given .1)
+    combiner-send-refused _ _ _ _ _ _ _ _ _ _ _ (read .before .before .loop .inv) (read .before .if1 .left) _ (read .flat-step .ensures) _ _ (told .step3 .given .1)
     _ (test .before .may-answer .ensures) (test .if10 .left) _ (move .combiner-send .ensures) (c .if11 .taken)
 
 returns-12 : tie.Need-returns-12 Inv-loop μ-loop
@@ -199,8 +201,8 @@ returns-13 c =
     let test = c .before .before .before in
     let told = test .before .before in
     let read = told .before .before in
-    pass-stop _ _ _ _ _ _ _ _ _ _ _ (read .before .before .loop .inv) (read .before .if1 .left) _ (read .flat-step .ensures) (told .enum-told4 .given .1)
-    _ (test .before .may-answer2 .ensures) (test .if12 .left) _ (c .before .may-skip .ensures) (c .if13 .taken)
+    combiner-send-skip-refused _ _ _ _ _ _ _ _ _ _ _ (read .before .before .loop .inv) (read .before .if1 .left) _ (read .flat-step .ensures)
+    (told .enum-told4 .given .1) _ (test .before .may-answer2 .ensures) (test .if12 .left) _ (c .before .may-skip .ensures) (c .if13 .taken)
 
 returns-14 : tie.Need-returns-14 Inv-loop μ-loop
 returns-14 c = search (stops runner carries)

@@ -3,11 +3,12 @@ use Prim.Native.Nat.{_-_}
 use borrow.Author.Needs.{needs}
 use Rattle.schedule.proofs.Running.{Runs, starts, ends, stops}
 use Rattle.lock.proofs.Moved.{cursor-inside, cell-inside, finish-inside}
-use Rattle.lock.proofs.Arms.{head-stops, exc-start-fair, exc-check-fair, exc-finish-fair, exc-release-fair, shared-start-fair, shared-finish-fair, shared-release-fair}
+use Rattle.lock.proofs.Arms.{stopped, exc-start-fair, exc-check-count-fair, exc-finish-fair, exc-release-fair}
+use Rattle.lock.proofs.Arms.{shared-start-fair, shared-finish-fair, shared-release-fair}
 use Rattle.lock.proofs.Sounds.{means-sound}
 use Rattle.lock_run.specs.Run.{runner}
 use Rattle.lock_run.proofs.Carried.{carries}
-use Rattle.lock_run.proofs.Turns.{head-refused, exc-start-turn, exc-start-ahead, exc-check-turn, exc-check-ahead}
+use Rattle.lock_run.proofs.Turns.{head-refused, exc-start-turn, exc-start-ahead, exc-check-count-turn, exc-check-count-ahead}
 use Rattle.lock_run.proofs.Turns.{exc-finish-turn, exc-finish-ahead, exc-release-turn, exc-release-ahead}
 use Rattle.lock_run.proofs.Turns.{shared-start-refused, shared-start-turn, shared-start-ahead, shared-finish-refused, shared-finish-turn, shared-finish-ahead}
 use Rattle.lock_run.proofs.Turns.{shared-release-refused, shared-release-turn, shared-release-ahead}
@@ -66,7 +67,7 @@ exc-check-count-requires : tie.Need-exc-check-count-requires Inv-loop μ-loop
 exc-check-count-requires c κs = search needs
 
 add-at-2 : tie.Need-add-at-2 Inv-loop μ-loop
-add-at-2 c = search exc-check-ahead
+add-at-2 c = search exc-check-count-ahead
 
 add-k-2 : tie.Need-add-k-2 Inv-loop μ-loop
 add-k-2 c = search needs
@@ -75,7 +76,7 @@ loop-less-2 : tie.Need-loop-less-2 Inv-loop μ-loop
 loop-less-2 c = search needs
 
 loop-again-2 : tie.Need-loop-again-2 Inv-loop μ-loop
-loop-again-2 c = search (exc-check-turn, exc-check-fair, means-sound)
+loop-again-2 c = search (exc-check-count-turn, exc-check-count-fair, means-sound)
 
 -- exc_finish
 enum-told-3 : tie.Need-enum-told-3 Inv-loop μ-loop
@@ -240,10 +241,10 @@ returns-2 : tie.Need-returns-2 Inv-loop μ-loop
 returns-2 c = search (head-refused, exc-start-fair)
 
 returns-3 : tie.Need-returns-3 Inv-loop μ-loop
-returns-3 c = search (stops runner carries, head-stops)
+returns-3 c = search (stops runner carries, stopped)
 
 returns-4 : tie.Need-returns-4 Inv-loop μ-loop
-returns-4 c = search (head-refused, exc-check-fair, means-sound)
+returns-4 c = search (head-refused, exc-check-count-fair, means-sound)
 
 returns-5 : tie.Need-returns-5 Inv-loop μ-loop
 returns-5 c = search (head-refused, exc-finish-fair)
@@ -252,19 +253,19 @@ returns-6 : tie.Need-returns-6 Inv-loop μ-loop
 returns-6 c = search (head-refused, exc-release-fair)
 
 returns-7 : tie.Need-returns-7 Inv-loop μ-loop
-returns-7 c = search (stops runner carries, head-stops)
+returns-7 c = search (stops runner carries, stopped)
 
 returns-8 : tie.Need-returns-8 Inv-loop μ-loop
 returns-8 c = search (shared-start-refused, shared-start-fair, means-sound)
 
 returns-9 : tie.Need-returns-9 Inv-loop μ-loop
-returns-9 c = search (stops runner carries, head-stops)
+returns-9 c = search (stops runner carries, stopped)
 
 returns-10 : tie.Need-returns-10 Inv-loop μ-loop
 returns-10 c = search (shared-finish-refused, shared-finish-fair, means-sound)
 
 returns-11 : tie.Need-returns-11 Inv-loop μ-loop
-returns-11 c = search (stops runner carries, head-stops)
+returns-11 c = search (stops runner carries, stopped)
 
 returns-12 : tie.Need-returns-12 Inv-loop μ-loop
 returns-12 c = search (shared-release-refused, shared-release-fair, means-sound)

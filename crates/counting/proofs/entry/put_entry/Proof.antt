@@ -1,6 +1,7 @@
 -- `counting::entry::put_entry` meets its contract: each case has its tag. Assumes nothing.
-use Rattle.counting.proofs.Writes.{entry-laid}
 use borrow.Author.Needs.{needs}
+use Rattle.rows.proofs.Stores.{laid-same}
+use Rattle.counting.specs.Image.{entryBytes}
 use Rattle.counting.proofs.entry.put_entry.Statement.{statement}
 use Rattle.counting.proofs.entry.put_entry.Tie as tie
 
@@ -20,13 +21,13 @@ same-length : tie.Need-same-length
 same-length c = search needs
 
 returns : tie.Need-returns
-returns c = search entry-laid
+returns c = search (laid-same entryBytes)
 
 same-length-2 : tie.Need-same-length-2
 same-length-2 c = search needs
 
 returns-2 : tie.Need-returns-2
-returns-2 c = search entry-laid
+returns-2 c = search (laid-same entryBytes)
 
 pub put-entry-spec : {M : Type 1} → statement M
 put-entry-spec =

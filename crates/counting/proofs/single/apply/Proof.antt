@@ -10,17 +10,8 @@ enum-known-x c = search needs
 writeable-to-readable-requires : tie.Need-writeable-to-readable-requires
 writeable-to-readable-requires c κs = search needs
 
-settle-requires : tie.Need-settle-requires
-settle-requires c κs = search needs
-
-enum-known-x-2 : tie.Need-enum-known-x-2
-enum-known-x-2 c = search needs
-
-delete-ref-requires : tie.Need-delete-ref-requires
-delete-ref-requires c κs = search needs
-
-settle-requires-2 : tie.Need-settle-requires-2
-settle-requires-2 c κs = search needs
+with-state-requires : tie.Need-with-state-requires
+with-state-requires c κs = search needs
 
 enum-told : tie.Need-enum-told
 enum-told c = search needs
@@ -28,8 +19,8 @@ enum-told c = search needs
 readable-to-writeable-requires : tie.Need-readable-to-writeable-requires
 readable-to-writeable-requires c κs = search needs
 
-settle-requires-3 : tie.Need-settle-requires-3
-settle-requires-3 c κs = search needs
+with-state-requires-2 : tie.Need-with-state-requires-2
+with-state-requires-2 c κs = search needs
 
 returns : tie.Need-returns
 returns c = search refused-step
@@ -37,8 +28,8 @@ returns c = search refused-step
 put-entry-requires : tie.Need-put-entry-requires
 put-entry-requires c κs = search needs
 
-settle-requires-4 : tie.Need-settle-requires-4
-settle-requires-4 c κs = search needs
+with-state-requires-3 : tie.Need-with-state-requires-3
+with-state-requires-3 c κs = search needs
 
 enum-told-2 : tie.Need-enum-told-2
 enum-told-2 c = search needs
@@ -46,8 +37,8 @@ enum-told-2 c = search needs
 new-ref-requires : tie.Need-new-ref-requires
 new-ref-requires c κs = search needs
 
-settle-requires-5 : tie.Need-settle-requires-5
-settle-requires-5 c κs = search needs
+with-state-requires-4 : tie.Need-with-state-requires-4
+with-state-requires-4 c κs = search needs
 
 returns-2 : tie.Need-returns-2
 returns-2 c = search refused-step
@@ -55,26 +46,35 @@ returns-2 c = search refused-step
 put-entry-requires-2 : tie.Need-put-entry-requires-2
 put-entry-requires-2 c κs = search needs
 
-settle-requires-6 : tie.Need-settle-requires-6
-settle-requires-6 c κs = search needs
+with-state-requires-5 : tie.Need-with-state-requires-5
+with-state-requires-5 c κs = search needs
+
+enum-known-x-2 : tie.Need-enum-known-x-2
+enum-known-x-2 c = search needs
+
+delete-ref-requires : tie.Need-delete-ref-requires
+delete-ref-requires c κs = search needs
+
+with-state-requires-6 : tie.Need-with-state-requires-6
+with-state-requires-6 c κs = search needs
 
 returns-3 : tie.Need-returns-3
 returns-3 c = search silent-step
 
-returns-4 : tie.Need-returns-4
-returns-4 c = search silent-step
-
 same-length : tie.Need-same-length
 same-length c = search needs
 
-returns-5 : tie.Need-returns-5
-returns-5 c = search logged-step
+returns-4 : tie.Need-returns-4
+returns-4 c = search logged-step
 
 same-length-2 : tie.Need-same-length-2
 same-length-2 c = search needs
 
+returns-5 : tie.Need-returns-5
+returns-5 c = search logged-step
+
 returns-6 : tie.Need-returns-6
-returns-6 c = search logged-step
+returns-6 c = search silent-step
 
 pub apply-spec : {M : Type 1} → statement M
 apply-spec =
@@ -82,25 +82,25 @@ apply-spec =
     (tie.spec
     enum-known-x
     writeable-to-readable-requires
-    settle-requires
-    enum-known-x-2
-    delete-ref-requires
-    settle-requires-2
+    with-state-requires
     enum-told
     readable-to-writeable-requires
-    settle-requires-3
+    with-state-requires-2
     returns
     put-entry-requires
-    settle-requires-4
+    with-state-requires-3
     enum-told-2
     new-ref-requires
-    settle-requires-5
+    with-state-requires-4
     returns-2
     put-entry-requires-2
-    settle-requires-6
+    with-state-requires-5
+    enum-known-x-2
+    delete-ref-requires
+    with-state-requires-6
     returns-3
-    returns-4
     same-length
-    returns-5
+    returns-4
     same-length-2
+    returns-5
     returns-6)

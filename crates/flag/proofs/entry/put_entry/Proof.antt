@@ -1,6 +1,7 @@
 -- `flag::entry::put_entry` meets its contract: each entry is laid down by its own writer. Assumes nothing.
 use borrow.Author.Needs.{needs}
-use Rattle.flag.proofs.Writes.{entry-laid}
+use Rattle.rows.proofs.Stores.{laid-same}
+use Rattle.flag.specs.Image.{entryBytes}
 use Rattle.flag.proofs.entry.put_entry.Statement.{statement}
 use Rattle.flag.proofs.entry.put_entry.Tie as tie
 
@@ -20,13 +21,13 @@ same-length : tie.Need-same-length
 same-length c = search needs
 
 returns : tie.Need-returns
-returns c = search entry-laid
+returns c = search (laid-same entryBytes)
 
 same-length-2 : tie.Need-same-length-2
 same-length-2 c = search needs
 
 returns-2 : tie.Need-returns-2
-returns-2 c = search entry-laid
+returns-2 c = search (laid-same entryBytes)
 
 pub put-entry-spec : {M : Type 1} → statement M
 put-entry-spec =

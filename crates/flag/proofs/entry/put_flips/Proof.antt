@@ -25,8 +25,8 @@ sub-if2 c = search needs
 returns-2 : tie.Need-returns-2
 returns-2 c = search flips-past
 
-owner-requires : tie.Need-owner-requires
-owner-requires c κs = search needs
+offerer-requires : tie.Need-offerer-requires
+offerer-requires c κs = search needs
 
 put-flip-requires-2 : tie.Need-put-flip-requires-2
 put-flip-requires-2 c κs = search needs
@@ -60,7 +60,7 @@ put-flips-spec =
     returns
     sub-if2
     returns-2
-    owner-requires
+    offerer-requires
     put-flip-requires-2
     put-flip-requires-3
     returns-3

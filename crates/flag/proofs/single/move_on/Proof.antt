@@ -2,7 +2,7 @@
 use borrow.Author.Needs.{needs}
 use Rattle.flag.proofs.Moved.{thread-inside}
 use Rattle.flag.proofs.Arms.{move-outside, move-idle, move-fair}
-use Rattle.flag.proofs.Stepping.{refused, moved}
+use Rattle.flag.proofs.Stepping.{refused, move-accepted}
 use Rattle.flag.proofs.single.move_on.Statement.{statement}
 use Rattle.flag.proofs.single.move_on.Tie as tie
 
@@ -27,8 +27,8 @@ quiet-requires-2 c κs = search needs
 returns-2 : tie.Need-returns-2
 returns-2 c = search (refused, move-idle)
 
-exchange-requires : tie.Need-exchange-requires
-exchange-requires c κs = search needs
+go-on-requires : tie.Need-go-on-requires
+go-on-requires c κs = search needs
 
 put-flips-requires : tie.Need-put-flips-requires
 put-flips-requires c κs = search needs
@@ -40,7 +40,7 @@ same-length : tie.Need-same-length
 same-length c = search needs
 
 returns-3 : tie.Need-returns-3
-returns-3 c = search (moved, move-fair)
+returns-3 c = search (move-accepted, move-fair)
 
 pub move-on-spec : {M : Type 1} → statement M
 move-on-spec =
@@ -53,7 +53,7 @@ move-on-spec =
     may-move-requires
     quiet-requires-2
     returns-2
-    exchange-requires
+    go-on-requires
     put-flips-requires
     with-place-requires
     same-length

@@ -2,7 +2,7 @@
 use borrow.Author.Needs.{needs}
 use Rattle.flag.proofs.Moved.{thread-inside}
 use Rattle.flag.proofs.Arms.{read-outside, read-busy, read-fair}
-use Rattle.flag.proofs.Stepping.{refused, read}
+use Rattle.flag.proofs.Stepping.{refused, read-accepted}
 use Rattle.flag.proofs.single.read.Statement.{statement}
 use Rattle.flag.proofs.single.read.Tie as tie
 
@@ -34,7 +34,7 @@ same-length : tie.Need-same-length
 same-length c = search needs
 
 returns-3 : tie.Need-returns-3
-returns-3 c = search (read, read-fair)
+returns-3 c = search (read-accepted, read-fair)
 
 pub read-spec : {M : Type 1} → statement M
 read-spec =

@@ -1,8 +1,8 @@
 -- `flag::single::tested` meets its contract: the log's room and the state's soundness come before the machine's own tests. Assumes nothing.
+use mathlib.Core.Path.{sym, _∙_}
 use borrow.Author.Needs.{needs}
 use Rattle.machine.proofs.Answering.{short-log, not-sound}
 use Rattle.flag.specs.Single.{stepper}
-use Rattle.flag.proofs.Stepping.{sound-known}
 use Rattle.flag.proofs.single.tested.Statement.{statement}
 use Rattle.flag.proofs.single.tested.Tie as tie
 
@@ -16,7 +16,7 @@ is-sound-requires : tie.Need-is-sound-requires
 is-sound-requires c κs = search needs
 
 apply-requires : tie.Need-apply-requires
-apply-requires c κs = (search sound-known, search needs)
+apply-requires c κs = (sym (c .before .before .is-sound .ensures) ∙ c .before .if2 .taken, search needs)
 
 same-length : tie.Need-same-length
 same-length c = search needs

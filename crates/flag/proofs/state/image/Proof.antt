@@ -4,8 +4,8 @@ use Rattle.flag.proofs.Writes.{used-fits, used-inside, used-long, image
 use Rattle.flag.proofs.state.image.Statement.{statement}
 use Rattle.flag.proofs.state.image.Tie as tie
 
-threads-used-requires : tie.Need-threads-used-requires
-threads-used-requires c κs = search needs
+in-use-requires : tie.Need-in-use-requires
+in-use-requires c κs = search needs
 
 add-if1 : tie.Need-add-if1
 add-if1 c = search (needs, used-fits)
@@ -41,7 +41,7 @@ pub image-spec : {M : Type 1} → statement M
 image-spec =
     tie.close
     (tie.spec
-    threads-used-requires
+    in-use-requires
     add-if1
     returns
     cast-put1

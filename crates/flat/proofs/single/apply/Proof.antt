@@ -32,8 +32,8 @@ combiner-skip-requires c κs = search needs
 enum-told-3 : tie.Need-enum-told-3
 enum-told-3 c = search needs
 
-go-to-responding-requires : tie.Need-go-to-responding-requires
-go-to-responding-requires c κs = search needs
+combiner-go-to-responding-requires : tie.Need-combiner-go-to-responding-requires
+combiner-go-to-responding-requires c κs = search needs
 
 enum-known-x-3 : tie.Need-enum-known-x-3
 enum-known-x-3 c = search needs
@@ -50,8 +50,8 @@ combiner-send-skip-requires c κs = search needs
 enum-told-5 : tie.Need-enum-told-5
 enum-told-5 c = search needs
 
-go-to-collecting-requires : tie.Need-go-to-collecting-requires
-go-to-collecting-requires c κs = search needs
+combiner-go-to-collecting-requires : tie.Need-combiner-go-to-collecting-requires
+combiner-go-to-collecting-requires c κs = search needs
 
 returns : tie.Need-returns
 returns c = search (matched-silent stepper)
@@ -93,13 +93,13 @@ apply-spec =
     enum-told-2
     combiner-skip-requires
     enum-told-3
-    go-to-responding-requires
+    combiner-go-to-responding-requires
     enum-known-x-3
     combiner-send-requires
     enum-told-4
     combiner-send-skip-requires
     enum-told-5
-    go-to-collecting-requires
+    combiner-go-to-collecting-requires
     returns
     same-length
     returns-2

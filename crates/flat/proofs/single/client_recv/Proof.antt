@@ -1,7 +1,7 @@
 -- `flat::single::client_recv` meets its contract: soundness promises the client's response, and its entry goes over the front of the log. Assumes nothing.
 use borrow.Author.Needs.{needs}
 use Rattle.flat.proofs.Moved.{client-inside}
-use Rattle.flat.proofs.Stepping.{recv-stopped, recv-refused, receives}
+use Rattle.flat.proofs.Stepping.{client-recv-stopped, client-recv-refused, client-recv-accepted}
 use Rattle.flat.proofs.single.client_recv.Statement.{statement}
 use Rattle.flat.proofs.single.client_recv.Tie as tie
 
@@ -12,7 +12,7 @@ quiet-requires : tie.Need-quiet-requires
 quiet-requires c κs = search needs
 
 returns : tie.Need-returns
-returns c = search recv-stopped
+returns c = search client-recv-stopped
 
 mul-c : tie.Need-mul-c
 mul-c c = search needs
@@ -27,7 +27,7 @@ quiet-requires-2 : tie.Need-quiet-requires-2
 quiet-requires-2 c κs = search needs
 
 returns-2 : tie.Need-returns-2
-returns-2 c = search recv-refused
+returns-2 c = search client-recv-refused
 
 put-entry-requires : tie.Need-put-entry-requires
 put-entry-requires c κs = search needs
@@ -39,7 +39,7 @@ same-length : tie.Need-same-length
 same-length c = search needs
 
 returns-3 : tie.Need-returns-3
-returns-3 c = search receives
+returns-3 c = search client-recv-accepted
 
 pub client-recv-spec : {M : Type 1} → statement M
 client-recv-spec =

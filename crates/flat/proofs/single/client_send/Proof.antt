@@ -3,7 +3,7 @@ use borrow.Author.Needs.{needs}
 use Rattle.machine.proofs.Answering.{quiet-refused, quiet-fair}
 use Rattle.flat.specs.Single.{stepper}
 use Rattle.flat.proofs.Moved.{client-inside}
-use Rattle.flat.proofs.Arms.{stopped, send-fair}
+use Rattle.flat.proofs.Arms.{stopped, client-send-fair}
 use Rattle.flat.proofs.single.client_send.Statement.{statement}
 use Rattle.flat.proofs.single.client_send.Tie as tie
 
@@ -29,7 +29,7 @@ with-client-requires : tie.Need-with-client-requires
 with-client-requires c κs = search client-inside
 
 returns-2 : tie.Need-returns-2
-returns-2 c = search (quiet-fair stepper, send-fair)
+returns-2 c = search (quiet-fair stepper, client-send-fair)
 
 pub client-send-spec : {M : Type 1} → statement M
 client-send-spec =

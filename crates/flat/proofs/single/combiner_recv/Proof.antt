@@ -3,7 +3,7 @@ use borrow.Author.Needs.{needs}
 use Rattle.machine.proofs.Answering.{quiet-refused, quiet-fair}
 use Rattle.flat.specs.Single.{stepper}
 use Rattle.flat.proofs.Moved.{gather-inside, gather-fits}
-use Rattle.flat.proofs.Arms.{stopped, gather-code, gather-fair}
+use Rattle.flat.proofs.Arms.{stopped, combiner-recv-code, combiner-recv-fair}
 use Rattle.flat.proofs.single.combiner_recv.Statement.{statement}
 use Rattle.flat.proofs.single.combiner_recv.Tie as tie
 
@@ -32,7 +32,7 @@ quiet-requires-2 : tie.Need-quiet-requires-2
 quiet-requires-2 c κs = search needs
 
 returns-2 : tie.Need-returns-2
-returns-2 c = search (quiet-refused stepper, gather-code)
+returns-2 c = search (quiet-refused stepper, combiner-recv-code)
 
 mul-d : tie.Need-mul-d
 mul-d c = search needs
@@ -53,7 +53,7 @@ quiet-requires-3 : tie.Need-quiet-requires-3
 quiet-requires-3 c κs = search needs
 
 returns-3 : tie.Need-returns-3
-returns-3 c = search (quiet-fair stepper, gather-fair)
+returns-3 c = search (quiet-fair stepper, combiner-recv-fair)
 
 pub combiner-recv-spec : {M : Type 1} → statement M
 combiner-recv-spec =

@@ -3,7 +3,7 @@ use borrow.Author.Needs.{needs}
 use Rattle.machine.proofs.Answering.{quiet-refused, quiet-fair}
 use Rattle.flat.specs.Single.{stepper}
 use Rattle.flat.proofs.Moved.{answer-inside, answer-fits}
-use Rattle.flat.proofs.Arms.{stopped, answer-code, answer-fair}
+use Rattle.flat.proofs.Arms.{stopped, combiner-send-code, combiner-send-fair}
 use Rattle.flat.proofs.single.combiner_send.Statement.{statement}
 use Rattle.flat.proofs.single.combiner_send.Tie as tie
 
@@ -38,7 +38,7 @@ quiet-requires-2 : tie.Need-quiet-requires-2
 quiet-requires-2 c κs = search needs
 
 returns-2 : tie.Need-returns-2
-returns-2 c = search (quiet-refused stepper, answer-code)
+returns-2 c = search (quiet-refused stepper, combiner-send-code)
 
 mul-d : tie.Need-mul-d
 mul-d c = search needs
@@ -53,7 +53,7 @@ quiet-requires-3 : tie.Need-quiet-requires-3
 quiet-requires-3 c κs = search needs
 
 returns-3 : tie.Need-returns-3
-returns-3 c = search (quiet-fair stepper, answer-fair)
+returns-3 c = search (quiet-fair stepper, combiner-send-fair)
 
 pub combiner-send-spec : {M : Type 1} → statement M
 combiner-send-spec =

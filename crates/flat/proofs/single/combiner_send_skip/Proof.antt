@@ -3,7 +3,7 @@ use borrow.Author.Needs.{needs}
 use Rattle.machine.proofs.Answering.{quiet-refused, quiet-fair}
 use Rattle.flat.specs.Single.{stepper}
 use Rattle.flat.proofs.Moved.{answer-inside, answer-fits}
-use Rattle.flat.proofs.Arms.{stopped, pass-code, pass-fair}
+use Rattle.flat.proofs.Arms.{stopped, combiner-send-skip-code, combiner-send-skip-fair}
 use Rattle.flat.proofs.single.combiner_send_skip.Statement.{statement}
 use Rattle.flat.proofs.single.combiner_send_skip.Tie as tie
 
@@ -32,7 +32,7 @@ quiet-requires-2 : tie.Need-quiet-requires-2
 quiet-requires-2 c κs = search needs
 
 returns-2 : tie.Need-returns-2
-returns-2 c = search (quiet-refused stepper, pass-code)
+returns-2 c = search (quiet-refused stepper, combiner-send-skip-code)
 
 add-after : tie.Need-add-after
 add-after c = search answer-fits
@@ -41,7 +41,7 @@ quiet-requires-3 : tie.Need-quiet-requires-3
 quiet-requires-3 c κs = search needs
 
 returns-3 : tie.Need-returns-3
-returns-3 c = search (quiet-fair stepper, pass-fair)
+returns-3 c = search (quiet-fair stepper, combiner-send-skip-fair)
 
 pub combiner-send-skip-spec : {M : Type 1} → statement M
 combiner-send-skip-spec =

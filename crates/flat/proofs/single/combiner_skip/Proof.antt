@@ -3,7 +3,7 @@ use borrow.Author.Needs.{needs}
 use Rattle.machine.proofs.Answering.{quiet-refused, quiet-fair}
 use Rattle.flat.specs.Single.{stepper}
 use Rattle.flat.proofs.Moved.{gather-inside, gather-fits}
-use Rattle.flat.proofs.Arms.{skip-fair}
+use Rattle.flat.proofs.Arms.{combiner-skip-fair}
 use Rattle.flat.proofs.single.combiner_skip.Statement.{statement}
 use Rattle.flat.proofs.single.combiner_skip.Tie as tie
 
@@ -35,7 +35,7 @@ quiet-requires-2 : tie.Need-quiet-requires-2
 quiet-requires-2 c κs = search needs
 
 returns-2 : tie.Need-returns-2
-returns-2 c = search (quiet-fair stepper, skip-fair)
+returns-2 c = search (quiet-fair stepper, combiner-skip-fair)
 
 pub combiner-skip-spec : {M : Type 1} → statement M
 combiner-skip-spec =

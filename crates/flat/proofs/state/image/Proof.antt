@@ -5,11 +5,11 @@ use Rattle.flat.proofs.Writes.{image-short, combiner-room, elems-room, 
 use Rattle.flat.proofs.state.image.Statement.{statement}
 use Rattle.flat.proofs.state.image.Tie as tie
 
-places-used-requires : tie.Need-places-used-requires
-places-used-requires c κs = search needs
+in-use-requires : tie.Need-in-use-requires
+in-use-requires c κs = search needs
 
-places-used-requires-2 : tie.Need-places-used-requires-2
-places-used-requires-2 c κs = search needs
+in-use-requires-2 : tie.Need-in-use-requires-2
+in-use-requires-2 c κs = search needs
 
 mul-if1 : tie.Need-mul-if1
 mul-if1 c = search needs
@@ -45,8 +45,8 @@ pub image-spec : {M : Type 1} → statement M
 image-spec =
     tie.close
     (tie.spec
-    places-used-requires
-    places-used-requires-2
+    in-use-requires
+    in-use-requires-2
     mul-if1
     add-if1
     mul-if1-2

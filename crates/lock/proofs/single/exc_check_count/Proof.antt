@@ -3,7 +3,7 @@ use borrow.Author.Needs.{needs}
 use Rattle.machine.proofs.Answering.{quiet-refused, quiet-fair}
 use Rattle.lock.specs.Single.{stepper}
 use Rattle.lock.proofs.Moved.{cursor-inside}
-use Rattle.lock.proofs.Arms.{head-stops, exc-check-fair}
+use Rattle.lock.proofs.Arms.{stopped, exc-check-count-fair}
 use Rattle.lock.proofs.single.exc_check_count.Statement.{statement}
 use Rattle.lock.proofs.single.exc_check_count.Tie as tie
 
@@ -14,7 +14,7 @@ quiet-requires : tie.Need-quiet-requires
 quiet-requires c κs = search needs
 
 returns : tie.Need-returns
-returns c = search (quiet-refused stepper, head-stops)
+returns c = search (quiet-refused stepper, stopped)
 
 cast-i : tie.Need-cast-i
 cast-i c = search needs
@@ -32,7 +32,7 @@ with-head-requires : tie.Need-with-head-requires
 with-head-requires c κs = search needs
 
 returns-2 : tie.Need-returns-2
-returns-2 c = search (quiet-fair stepper, exc-check-fair)
+returns-2 c = search (quiet-fair stepper, exc-check-count-fair)
 
 pub exc-check-count-spec : {M : Type 1} → statement M
 exc-check-count-spec =

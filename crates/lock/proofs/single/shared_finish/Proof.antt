@@ -5,7 +5,7 @@ use Rattle.lock.specs.Single.{stepper}
 use Rattle.lock.proofs.Moved.{finish-inside}
 use Rattle.lock.proofs.Arms.{shared-finish-fair}
 use Rattle.lock.proofs.Writes.{logs-short}
-use Rattle.lock.proofs.Stepping.{shared-finish-stops, shared-finish-refused}
+use Rattle.lock.proofs.Stepping.{shared-finish-stopped, shared-finish-refused}
 use Rattle.lock.proofs.single.shared_finish.Statement.{statement}
 use Rattle.lock.proofs.single.shared_finish.Tie as tie
 
@@ -16,7 +16,7 @@ quiet-requires : tie.Need-quiet-requires
 quiet-requires c κs = search needs
 
 returns : tie.Need-returns
-returns c = search shared-finish-stops
+returns c = search shared-finish-stopped
 
 mul-c : tie.Need-mul-c
 mul-c c = search needs

@@ -3,7 +3,7 @@ use borrow.Author.Needs.{needs}
 use Rattle.machine.proofs.Answering.{quiet-refused, quiet-fair}
 use Rattle.lock.specs.Single.{stepper}
 use Rattle.lock.proofs.Moved.{cell-inside}
-use Rattle.lock.proofs.Arms.{head-stops, shared-release-fair}
+use Rattle.lock.proofs.Arms.{stopped, shared-release-fair}
 use Rattle.lock.proofs.single.shared_release.Statement.{statement}
 use Rattle.lock.proofs.single.shared_release.Tie as tie
 
@@ -14,7 +14,7 @@ quiet-requires : tie.Need-quiet-requires
 quiet-requires c κs = search needs
 
 returns : tie.Need-returns
-returns c = search (quiet-refused stepper, head-stops)
+returns c = search (quiet-refused stepper, stopped)
 
 mul-c : tie.Need-mul-c
 mul-c c = search needs

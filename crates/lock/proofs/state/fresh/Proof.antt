@@ -4,31 +4,31 @@ use borrow.Author.Needs.{needs}
 use Rattle.lock.proofs.state.fresh.Statement.{statement}
 use Rattle.lock.proofs.state.fresh.Tie as tie
 
-unlocked-requires : tie.Need-unlocked-requires
-unlocked-requires c κs = search needs
+idle-requires : tie.Need-idle-requires
+idle-requires c κs = search needs
 
 returns : tie.Need-returns
-returns c = rw (c .unlocked .ensures, eq-eqb _ _ (c .before .if1 .taken))
+returns c = rw (c .idle .ensures, eq-eqb _ _ (c .before .if1 .taken))
 
-unlocked-requires-2 : tie.Need-unlocked-requires-2
-unlocked-requires-2 c κs = search needs
+idle-requires-2 : tie.Need-idle-requires-2
+idle-requires-2 c κs = search needs
 
 returns-2 : tie.Need-returns-2
-returns-2 c = rw (c .unlocked2 .ensures, ne-eqb _ _ (c .before .before .if1 .left), lt-ltb _ _ (c .before .if2 .taken))
+returns-2 c = rw (c .idle2 .ensures, ne-eqb _ _ (c .before .before .if1 .left), lt-ltb _ _ (c .before .if2 .taken))
 
-unlocked-requires-3 : tie.Need-unlocked-requires-3
-unlocked-requires-3 c κs = search needs
+idle-requires-3 : tie.Need-idle-requires-3
+idle-requires-3 c κs = search needs
 
 returns-3 : tie.Need-returns-3
-returns-3 c = rw (c .unlocked3 .ensures, ne-eqb _ _ (c .before .before .if1 .left), le-ltb _ _ (c .before .if2 .left))
+returns-3 c = rw (c .idle3 .ensures, ne-eqb _ _ (c .before .before .if1 .left), le-ltb _ _ (c .before .if2 .left))
 
 pub fresh-spec : {M : Type 1} → statement M
 fresh-spec =
     tie.close
     (tie.spec
-    unlocked-requires
+    idle-requires
     returns
-    unlocked-requires-2
+    idle-requires-2
     returns-2
-    unlocked-requires-3
+    idle-requires-3
     returns-3)

@@ -5,8 +5,8 @@ use Rattle.lock.proofs.Writes.{cells-room, image-short, image-laid}
 use Rattle.lock.proofs.state.image.Statement.{statement}
 use Rattle.lock.proofs.state.image.Tie as tie
 
-cells-used-requires : tie.Need-cells-used-requires
-cells-used-requires c κs = search needs
+in-use-requires : tie.Need-in-use-requires
+in-use-requires c κs = search needs
 
 mul-if1 : tie.Need-mul-if1
 mul-if1 c = search needs
@@ -33,7 +33,7 @@ pub image-spec : {M : Type 1} → statement M
 image-spec =
     tie.close
     (tie.spec
-    cells-used-requires
+    in-use-requires
     mul-if1
     add-if1
     returns

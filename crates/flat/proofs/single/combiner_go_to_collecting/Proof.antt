@@ -1,10 +1,10 @@
--- `flat::single::go_to_collecting` meets its contract: the combiner's tests decide. Assumes nothing.
+-- `flat::single::combiner_go_to_collecting` meets its contract: the combiner's tests decide. Assumes nothing.
 use borrow.Author.Needs.{needs}
 use Rattle.machine.proofs.Answering.{quiet-refused, quiet-fair}
 use Rattle.flat.specs.Single.{stepper}
-use Rattle.flat.proofs.Arms.{collect-fair}
-use Rattle.flat.proofs.single.go_to_collecting.Statement.{statement}
-use Rattle.flat.proofs.single.go_to_collecting.Tie as tie
+use Rattle.flat.proofs.Arms.{combiner-go-to-collecting-fair}
+use Rattle.flat.proofs.single.combiner_go_to_collecting.Statement.{statement}
+use Rattle.flat.proofs.single.combiner_go_to_collecting.Tie as tie
 
 may-collect-requires : tie.Need-may-collect-requires
 may-collect-requires c κs = search needs
@@ -22,10 +22,10 @@ quiet-requires-2 : tie.Need-quiet-requires-2
 quiet-requires-2 c κs = search needs
 
 returns-2 : tie.Need-returns-2
-returns-2 c = search (quiet-fair stepper, collect-fair)
+returns-2 c = search (quiet-fair stepper, combiner-go-to-collecting-fair)
 
-pub go-to-collecting-spec : {M : Type 1} → statement M
-go-to-collecting-spec =
+pub combiner-go-to-collecting-spec : {M : Type 1} → statement M
+combiner-go-to-collecting-spec =
     tie.close
     (tie.spec
     may-collect-requires

@@ -1,10 +1,10 @@
--- `flag::moves::owner` meets its contract: no thread passed by the loop offers, and what is left of the row decides. Assumes nothing.
+-- `flag::moves::offerer` meets its contract: no thread passed by the loop offers, and what is left of the row decides. Assumes nothing.
 use Prim.Native.Nat.{_-_}
 use borrow.Author.Needs.{needs}
 use Rattle.schedule.specs.Limits as limit
 use Rattle.flag.proofs.Looking.{Looking, looking-begins, looking-stops, looking-more, looking-ends}
-use Rattle.flag.proofs.moves.owner.Statement.{statement}
-use Rattle.flag.proofs.moves.owner.Tie as tie
+use Rattle.flag.proofs.moves.offerer.Statement.{statement}
+use Rattle.flag.proofs.moves.offerer.Tie as tie
 
 abbrev Inv-loop : tie.InvT-loop
 Inv-loop places i₀ i = Looking places i
@@ -39,8 +39,8 @@ cast-result-2 c = search needs
 returns-2 : tie.Need-returns-2 Inv-loop μ-loop
 returns-2 c = search looking-ends
 
-pub owner-spec : {M : Type 1} → statement M
-owner-spec =
+pub offerer-spec : {M : Type 1} → statement M
+offerer-spec =
     tie.close
     (tie.spec
     Inv-loop

@@ -1,8 +1,8 @@
--- `flag::moves::exchange` meets its contract: at each place it tests as the definition does. Assumes nothing.
+-- `flag::moves::go_on` meets its contract: at each place it tests as the definition does. Assumes nothing.
 use borrow.Author.Tests.{ne-eqb}
 use borrow.Author.Needs.{needs}
-use Rattle.flag.proofs.moves.exchange.Statement.{statement}
-use Rattle.flag.proofs.moves.exchange.Tie as tie
+use Rattle.flag.proofs.moves.go_on.Statement.{statement}
+use Rattle.flag.proofs.moves.go_on.Tie as tie
 
 to-requires : tie.Need-to-requires
 to-requires c κs = search needs
@@ -79,8 +79,8 @@ returns-12 c =
     rw (c .to12 .ensures, ne-eqb _ _ (d .before .before .before .if1 .left), ne-eqb _ _ (d .before .before .if3 .left), ne-eqb _ _ (d .before .if5 .left))
     (rw (ne-eqb _ _ (d .if7 .left), ne-eqb _ _ (c .before .before .if9 .left), ne-eqb _ _ (c .before .if11 .left)))
 
-pub exchange-spec : {M : Type 1} → statement M
-exchange-spec =
+pub go-on-spec : {M : Type 1} → statement M
+go-on-spec =
     tie.close
     (tie.spec
     to-requires
