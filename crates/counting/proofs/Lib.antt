@@ -6,7 +6,7 @@ pub mod Writes
 -- the machine and its source
 pub mod Sounds
 pub mod Kept
-pub mod Enabling
+pub mod Lines
 pub mod Posts
 pub mod Inductive
 pub mod Refines

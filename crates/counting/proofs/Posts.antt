@@ -1,19 +1,22 @@
--- What an accepted step does in the source: where it leads, to no other state, what it hands out, and that its deposits and withdrawals are safe. Assumes nothing.
+-- What an accepted step does in the source: where it leads, to no other state, and what it hands out, nothing else. Assumes nothing.
 use Prim.Native.Nat.{ℕ}
 use mathlib.Core.Path.{_≡_, refl, sym, _∙_}
 use mathlib.Core.Bool.{Bool, true, false}
+use mathlib.Core.List.{List}
 use borrow.Author.Tests.{eqb-true, ltb-true}
 use Rattle.rows.proofs.Cases.{clash}
 use Rattle.machine.specs.Machine.{Accepted}
+use Rattle.machine.proofs.Known.{one-held}
 use Rattle.machine.proofs.Multisets.{insert-at-only, remove-at-only}
 use Rattle.schedule.specs.declared.steps.CountingStep.{CountingStep}
 use Rattle.schedule.specs.declared.steps.CountingStep.the-variants.{WriteableToReadable, ReadableToWriteable, NewRef, DeleteRef}
 use Rattle.counting.specs.Source as source
-use Rattle.counting.specs.Source.{CountingPermissions, Transition, Moves, Safe}
+use Rattle.counting.specs.Source.{CountingPermissions, Transition, Moves}
 use Rattle.counting.specs.Counting.{counting, next, logs}
 use Rattle.counting.specs.Refined.{abs, label, Sound, HandsOut}
 use Rattle.counting.specs.declared.state.State.{State}
-use Rattle.counting.proofs.Inductive.{same-counter, safe}
+use Rattle.counting.specs.declared.entry.Entry.{Entry}
+use Rattle.counting.proofs.Inductive.{same-counter}
 use Rattle.counting.proofs.Sounds.{state, none-same, same-permissions, counted-none}
 
 -- ---------- an accepted step is the source's transition, to what the state after it stands for
@@ -51,7 +54,7 @@ accepted-moves s x k a = moves (s .present) (s .t) (s .count) (s .refs) x k a
 
 -- ---------- a transition has one state after it
 
-moves-one : (l : Transition) (m p q : CountingPermissions) → Moves m l p → Moves m l q → p ≡ q
+pub moves-one : (l : Transition) (m p q : CountingPermissions) → Moves m l p → Moves m l q → p ≡ q
 moves-one (source.writeable-to-readable t) m p q v w = v .update ∙ sym (w .update)
 moves-one source.readable-to-writeable m p q v w = v .update ∙ sym (w .update)
 moves-one source.new-ref m p q v w =
@@ -60,11 +63,7 @@ moves-one source.new-ref m p q v w =
 moves-one (source.delete-ref t1) m p q v w =
     rw (v .update, w .update, same-counter (sym (v .require) ∙ w .require) .0)
 
-pub accepted-post : (s : State) (x : CountingStep) (to : CountingPermissions) → Sound s → Accepted counting s x → Moves (abs s) (label x) to
-    → to ≡ abs (next s x)
-accepted-post s x to k a v = moves-one (label x) (abs s) to (abs (next s x)) v (accepted-moves s x k a)
-
--- ---------- what it hands out, deposits and withdraws
+-- ---------- what it hands out
 
 pub accepted-logs : (s : State) (x : CountingStep) → Sound s → Accepted counting s x → HandsOut (abs s) (label x) (logs s x)
 accepted-logs s (WriteableToReadable t) k a = refl
@@ -72,5 +71,9 @@ accepted-logs s ReadableToWriteable k a = (s .t, rw (a .0), refl)
 accepted-logs s NewRef k a = (s .count, s .t, rw (a .0), refl)
 accepted-logs s (DeleteRef t) k a = refl
 
-pub accepted-safe : (s : State) (x : CountingStep) → Sound s → Accepted counting s x → Safe (abs s) (label x)
-accepted-safe s x k a = safe (label x) (abs s) (abs (next s x)) (k .inv) (accepted-moves s x k a)
+-- and it hands out nothing else
+pub hands-one : (y : Transition) (m : CountingPermissions) (es fs : List Entry) → HandsOut m y es → HandsOut m y fs → es ≡ fs
+hands-one (source.writeable-to-readable t) m es fs p q = p ∙ sym q
+hands-one source.readable-to-writeable m es fs p q = rw (p .2, q .2, one-held (p .1) (q .1))
+hands-one source.new-ref m es fs p q = rw (p .3, q .3, same-counter (sym (p .2) ∙ q .2) .1)
+hands-one (source.delete-ref t) m es fs p q = p ∙ sym q

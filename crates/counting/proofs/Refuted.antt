@@ -1,12 +1,20 @@
--- Made-up histories, the newest step first, that the demand refuses: it is not met by just any history. Assumes nothing.
+-- Made-up histories, the newest step first, that the demand refuses: it is not met by just any history; and a made-up reason. Assumes nothing.
 use Prim.Native.Nat.{ℕ}
 use mathlib.Core.Path.{refl}
+use mathlib.Core.Bool.{cond}
+use mathlib.Core.Logic.{inl, inr}
 use mathlib.Core.List.{[], _∷_}
+use mathlib.Core.Option.{some}
 use native.Mathlib.Omega.{arith}
+use lib.Dec.{eqb}
 use Rattle.rows.proofs.Cases.{clash}
 use Rattle.machine.specs.History.{Event}
+use Rattle.machine.specs.Sourced.{Reason}
+use Rattle.machine.proofs.Reasons.{first-one}
 use Rattle.schedule.specs.declared.steps.CountingStep.{CountingStep}
 use Rattle.schedule.specs.declared.steps.CountingStep.the-variants.{WriteableToReadable, ReadableToWriteable, NewRef, DeleteRef}
+use Rattle.counting.specs.Source.{CountingPermissions, readable-to-writeable}
+use Rattle.counting.specs.Refined.{lines, countingPermissions}
 use Rattle.counting.specs.Demand.{Demand}
 use Rattle.counting.specs.declared.entry.Entry.{Entry}
 use Rattle.counting.specs.declared.entry.Entry.the-variants.{Withdrawn, Granted}
@@ -63,3 +71,13 @@ pub another-handed-out : Demand (hands-out 8 ∷ stores 7 ∷ []) → ⊥
 another-handed-out d =
     let w = d .handed-out [] (stores 7 ∷ []) (Granted 8 ∷ []) refl in
     clash (cc)
+
+-- a value is asked for while a reference to it is held: the reason is 16, and no other
+abbrev held : CountingPermissions
+held = record { stored = some 7; main-counter = some (1, 7); read-ref = λ u. cond (eqb u 7) 1 0 }
+
+pub reason-16 : Reason countingPermissions held readable-to-writeable 16
+reason-16 = inr (λ e. clash (cc), inl (refl, (1, 7, refl, λ e. omega arith)))
+
+pub not-13 : Reason countingPermissions held readable-to-writeable 13 → ⊥
+not-13 r = omega (arith, first-one (lines held readable-to-writeable) 13 16 r reason-16)

@@ -1,6 +1,6 @@
 -- The test of a state says what soundness means: the source's invariant, the counter's limit, unused entries zero. Assumes nothing.
 use Prim.Native.Nat.{ℕ}
-use mathlib.Core.Path.{_≡_, refl, sym, _∙_}
+use mathlib.Core.Path.{_≡_, refl, sym, ap, _∙_}
 use mathlib.Core.Bool.{Bool, true, false, cond, _&&_}
 use mathlib.Core.Option.{Option}
 use native.Mathlib.Omega.{arith}
@@ -15,6 +15,7 @@ use Rattle.counting.specs.Counting.{freshState}
 use Rattle.counting.specs.Sound.{sound}
 use Rattle.counting.specs.Refined.{abs, Sound}
 use Rattle.counting.specs.declared.state.State.{State}
+use Rattle.counting.proofs.Inductive.{same-counter}
 use Rattle.counting.proofs.Moved.{refs-counted}
 
 -- a state by its entries: a claim by the two cases of `present` is one about every state
@@ -71,6 +72,24 @@ tests false t count refs h =
 
 pub means-sound : (s : State) → Sound s → sound s ≡ true
 means-sound s h = tests (s .present) (s .t) (s .count) (s .refs) h
+
+-- ---------- a sound state is told by what it stands for
+
+told : (b c : Bool) (t count refs u count′ refs′ : ℕ) → let s = state b t count refs in let s′ = state c u count′ refs′ in
+    Sound s → Sound s′ → abs s ≡ abs s′ → s ≡ s′
+told true true t count refs u count′ refs′ k j e =
+    let q = same-counter (ap (λ (m : CountingPermissions). m .main-counter) e) in
+    let p : refs ≡ count = refs-counted (state true t count refs) (means-sound _ k) refl in
+    let p′ : refs′ ≡ count′ = refs-counted (state true u count′ refs′) (means-sound _ j) refl in
+    rw (p, p′, q .0, q .1)
+told true false t count refs u count′ refs′ k j e = clash (cc (ap (λ (m : CountingPermissions). m .stored) e))
+told false true t count refs u count′ refs′ k j e = clash (cc (ap (λ (m : CountingPermissions). m .stored) e))
+told false false t count refs u count′ refs′ k j e =
+    let p = k .unused refl in let q = j .unused refl in
+    rw (p .0, p .1, p .2, q .0, q .1, q .2)
+
+pub abs-tells : (s s′ : State) → Sound s → Sound s′ → abs s ≡ abs s′ → s ≡ s′
+abs-tells s s′ k j e = told (s .present) (s′ .present) (s .t) (s .count) (s .refs) (s′ .t) (s′ .count) (s′ .refs) k j e
 
 -- ---------- a counter at 0: no reference either
 

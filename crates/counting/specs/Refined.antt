@@ -5,7 +5,8 @@ use mathlib.Core.Bool.{true, false, cond}
 use mathlib.Core.List.{List, [], _∷_}
 use mathlib.Core.Option.{none, some}
 use lib.Dec.{eqb}
-use Rattle.machine.specs.Sourced.{Sourced, Inductive, Upholds}
+use Rattle.machine.specs.Codes as code
+use Rattle.machine.specs.Sourced.{Line, line, Sourced, Inductive, Complete, Upholds}
 use Rattle.schedule.specs.Limits as limit
 use Rattle.schedule.specs.declared.steps.CountingStep.{CountingStep}
 use Rattle.schedule.specs.declared.steps.CountingStep.the-variants.{WriteableToReadable, ReadableToWriteable, NewRef, DeleteRef}
@@ -41,13 +42,15 @@ pub record Sound (s : State) : Type 0 where
   pub limit : s .count ≤ limit.counter
   pub unused : s .present ≡ false → (s .t ≡ 0) × (s .count ≡ 0) × (s .refs ≡ 0)
 
--- ---------- enabled: the source's transition leads somewhere, and the counter's limit is not reached
+-- ---------- the scope's table of codes, said of counting.rs
 
-abbrev pub AtLimit : State → CountingStep → Type 0
-AtLimit s (WriteableToReadable t) = ⊥
-AtLimit s ReadableToWriteable = ⊥
-AtLimit s NewRef = (s .present ≡ true) × (s .count ≡ limit.counter)
-AtLimit s (DeleteRef t) = ⊥
+-- writeable_to_readable needs no counter; the others need one
+abbrev pub lines : CountingPermissions → Transition → List Line
+lines a (source.writeable-to-readable t) = line code.phase (a .main-counter ≡ none → ⊥) ∷ []
+lines a source.readable-to-writeable =
+    line code.phase (a .main-counter ≡ none) ∷ line code.count ((count t : ℕ) × (a .main-counter ≡ some (count, t)) × (count ≡ 0 → ⊥)) ∷ []
+lines a source.new-ref = line code.phase (a .main-counter ≡ none) ∷ line code.full ((t : ℕ) × (a .main-counter ≡ some (limit.counter, t))) ∷ []
+lines a (source.delete-ref t) = line code.phase (a .main-counter ≡ none) ∷ line code.missing (a .read-ref t ≡ 0) ∷ []
 
 -- what the source hands out: readable_to_writeable the value that it withdraws, new_ref a reference to the counter's value
 abbrev pub HandsOut : CountingPermissions → Transition → List Entry → Type 0
@@ -65,9 +68,9 @@ countingPermissions =
       Moves = Moves;
       Safe = Safe;
       HandsOut = HandsOut;
+      lines = lines;
       abs = abs;
       label = label;
-      AtLimit = AtLimit;
     }
 
 -- ---------- what is proved
@@ -84,6 +87,8 @@ pub record Refines : Type 0 where
   -- the source's own proofs, over all of its states: it starts with its invariants, and its transitions keep them
   pub initial : main-inv source.new
   pub inductive : Inductive countingPermissions main-inv
+  -- its table: a transition leads somewhere, below the limit, exactly if no line applies
+  pub complete : Complete countingPermissions main-inv
   -- the source's properties follow from its invariant, so they hold of every sound state
   pub compare-refs : (m : CountingPermissions) → main-inv m → invariants.compare-refs m
   pub compare-ref-and-counter : (m : CountingPermissions) → main-inv m → invariants.compare-ref-and-counter m

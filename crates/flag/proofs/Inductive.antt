@@ -1,6 +1,6 @@
 -- The source's own proofs: each transition keeps FlagInv, under it the store that does not look takes note of an offer that was accepted, and `new` has it.
 -- So the transcription is tried by itself, apart from the machine. Assumes nothing.
-use mathlib.Core.Path.{_≡_, refl, _∙_}
+use mathlib.Core.Path.{_≡_, refl, sym, _∙_}
 use mathlib.Core.Bool.{Bool, true, false, cond, Bool·beq}
 use mathlib.Core.Logic.{inl, inr}
 use Prim.Native.Nat.{ℕ}
@@ -125,6 +125,12 @@ inductive (source.begin k) pre post i v =
     rw (v .update) (quiet (pre .controls) k try-cancel-two-flips (pre .memory .pending) (λ w. not-returned (rw (v .outside) at w)) not-cancelling i)
 inductive (source.move k) pre post i v = rw (v .update) (moved (pre .memory) (pre .controls) k (pre .controls k) refl i)
 inductive (source.read k) pre post i v = rw (v .update) i
+
+-- one thread only waits
+pub one-waits : {p : ℕ} {at : ℕ → Control} → Protocol p at → (j k : ℕ) → Waits (at j) → Waits (at k) → j ≡ k
+one-waits (Empty e n) j k v w = absurd (n j v)
+one-waits (Offering o e a n) j k v w = n j v ∙ sym (n k w)
+one-waits (Accepted o e a n) j k v w = n j v ∙ sym (n k w)
 
 at-store : (p : ℕ) (at : ℕ → Control) (k : ℕ) → Protocol p at → at k ≡ try-handshake-store → p ≡ 2
 at-store p at k (Empty z u) e = absurd (u k (inr e))

@@ -12,7 +12,7 @@ pub mod Offers
 pub mod Offerer
 pub mod Sounds
 pub mod Kept
-pub mod Enabling
+pub mod Lines
 pub mod Posts
 pub mod Ends
 pub mod Wanders

@@ -12,8 +12,8 @@ use Rattle.rows.specs.Walk.{many}
 use Rattle.rows.proofs.Cases.{cannot, clash, both-true, true-both}
 use Rattle.rows.proofs.Row.{many-none}
 use Rattle.flag.specs.Source as source
-use Rattle.flag.specs.Source.{Control, Flag}
-use Rattle.flag.specs.Invariants.{Protocol, Waits, Empty, Offering, Accepted, FlagInv}
+use Rattle.flag.specs.Source.{Control}
+use Rattle.flag.specs.Invariants.{Protocol, Waits, Empty, Offering, Accepted}
 use Rattle.flag.specs.Sound.{atSecond, atStore, handshake}
 use Rattle.flag.specs.Refined.{control}
 use Rattle.flag.proofs.Loop.{waiting, second-five, waits-waiting, waiting-waits, five-second, six-store}
@@ -110,10 +110,3 @@ protocol-handshake d ps (Offering k z e f) =
 protocol-handshake d ps (Accepted k z w f) =
     rw z
     (sym (waiting-counts ps) ∙ sole-many waiting ps k 0 refl (waits-waiting (getD ps k 0) w) (λ j n. not-waiting ps j (λ v. n (f j v))))
-
--- ---------- a thread that goes to the store had its offer accepted
-
-pub store-accepted : (m : Flag) (k : ℕ) → FlagInv m → m .controls k ≡ source.try-handshake-store → m .memory .pending ≡ 2
-store-accepted m k (Empty z n) e = absurd (n k (inr e))
-store-accepted m k (Offering j z a f) e = let q = f k (inr e) in clash (cc)
-store-accepted m k (Accepted j z w f) e = z

@@ -1,8 +1,9 @@
--- What an accepted step does in the source: where it leads, to no other state, what it hands out, and that it is safe: who stores has its offer accepted.
--- Assumes nothing.
+-- What an accepted step does in the source: where it leads, to no other state, and what it hands out, nothing else. Assumes nothing.
 use Prim.Native.Nat.{ℕ, _<_}
 use mathlib.Core.Path.{_≡_, refl, sym, ap, _∙_}
 use mathlib.Core.Bool.{Bool, cond}
+use mathlib.Core.Logic.{inl}
+use mathlib.Core.List.{List}
 use lib.Dec.{eqb}
 use borrow.Author.Tests.{eqb-true, eq-eqb, ne-eqb, ltb-true}
 use Rattle.rows.proofs.Row.{row-case}
@@ -10,13 +11,15 @@ use Rattle.machine.specs.Machine.{Accepted}
 use Rattle.schedule.specs.declared.steps.FlagStep.{FlagStep}
 use Rattle.schedule.specs.declared.steps.FlagStep.the-variants.{Begin, Move, Read}
 use Rattle.flag.specs.Source as source
-use Rattle.flag.specs.Source.{Control, Memory, Resolves, Flag, Transition, Moves, Safe, with-thread, control-after, memory-after, resolves}
+use Rattle.flag.specs.Source.{Control, Memory, Resolves, Flag, Transition, Moves, with-thread, control-after, memory-after, resolves}
+use Rattle.flag.specs.Invariants.{FlagInv}
 use Rattle.flag.specs.Flag.{flag, place, went, wentBy, offerer, withPlace, next, logs, flipped}
 use Rattle.flag.specs.Refined.{number, control, flipsOf, abs, label, Sound, Resolved, HandsOut}
 use Rattle.flag.specs.declared.state.State.{State}
+use Rattle.flag.specs.declared.entry.Entry.{Entry}
 use Rattle.flag.specs.declared.moves.Went.{Went}
 use Rattle.flag.proofs.Loop.{numbered, table}
-use Rattle.flag.proofs.Offers.{store-accepted}
+use Rattle.flag.proofs.Inductive.{one-waits}
 use Rattle.flag.proofs.Offerer.{offerer-second, offerer-thread, both-offered}
 use Rattle.flag.proofs.Sounds.{in-row}
 use Rattle.flag.proofs.Kept.{inside-loop, stands-at}
@@ -74,13 +77,10 @@ accepted-moves s (Read k) i a = record { thread = ltb-true k (s .threads) (a .0)
 
 -- ---------- and a transition has one state after it
 
-moves-one : (l : Transition) (m p q : Flag) → Moves m l p → Moves m l q → p ≡ q
+pub moves-one : (l : Transition) (m p q : Flag) → Moves m l p → Moves m l q → p ≡ q
 moves-one (source.begin k) m p q v w = v .update ∙ sym (w .update)
 moves-one (source.move k) m p q v w = v .update ∙ sym (w .update)
 moves-one (source.read k) m p q v w = v .update ∙ sym (w .update)
-
-pub accepted-post : (s : State) (x : FlagStep) (to : Flag) → Sound s → Accepted flag s x → Moves (abs s) (label x) to → to ≡ abs (next s x)
-accepted-post s x to i a v = moves-one (label x) (abs s) to (abs (next s x)) v (accepted-moves s x i a)
 
 -- ---------- the log is what the source resolves or reads
 
@@ -97,7 +97,13 @@ accepted-logs s (Begin k) i a = refl
 accepted-logs s (Move k) i a = rw (by-table s k i a) (resolved s k i (resolves (abs s .controls k) (abs s .memory)) refl)
 accepted-logs s (Read k) i a = refl
 
-pub accepted-safe : (s : State) (x : FlagStep) → Sound s → Accepted flag s x → Safe (abs s) (label x)
-accepted-safe s (Begin k) i a = tt
-accepted-safe s (Move k) i a = store-accepted (abs s) k (i .inv)
-accepted-safe s (Read k) i a = tt
+-- and nothing else is: one thread only waits with its offer
+resolved-one : (m : Flag) (k : ℕ) (r : Resolves) (es fs : List Entry) → FlagInv m → Resolved m k r es → Resolved m k r fs → es ≡ fs
+resolved-one m k source.none-resolved es fs i p q = p ∙ sym q
+resolved-one m k source.own-resolved es fs i p q = p ∙ sym q
+resolved-one m k source.both-resolved es fs i p q = rw (p .3, q .3, one-waits i (p .0) (q .0) (inl (p .2)) (inl (q .2)))
+
+pub hands-one : (y : Transition) (m : Flag) (es fs : List Entry) → FlagInv m → HandsOut m y es → HandsOut m y fs → es ≡ fs
+hands-one (source.begin k) m es fs i p q = p ∙ sym q
+hands-one (source.move k) m es fs i p q = resolved-one m k (resolves (m .controls k) (m .memory)) es fs i p q
+hands-one (source.read k) m es fs i p q = p ∙ sym q

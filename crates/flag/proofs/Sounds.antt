@@ -1,6 +1,6 @@
 -- The test of a state says what soundness means: the source's protocol, the limits, unused entries zero. Assumes nothing.
 use Prim.Native.Nat.{ℕ, _≤_, _<_}
-use mathlib.Core.Path.{_≡_, refl}
+use mathlib.Core.Path.{_≡_, refl, sym, ap, _∙_}
 use mathlib.Core.Bool.{Bool, true, false}
 use native.Mathlib.Omega.{arith}
 use lib.Dec.{eqb, ltb}
@@ -10,15 +10,17 @@ use Rattle.rows.specs.Walk.{many}
 use Rattle.rows.proofs.Cases.{on, clash, true-both}
 use Rattle.rows.proofs.Rows.{getD-replicate}
 use Rattle.rows.proofs.Walks.{every-all}
+use Rattle.machine.proofs.Known.{rows-alike}
 use Rattle.schedule.specs.Limits as limit
 use Rattle.flag.specs.Source as source
+use Rattle.flag.specs.Source.{Flag}
 use Rattle.flag.specs.Invariants.{Empty}
 use Rattle.flag.specs.Flag.{place, freshState}
 use Rattle.flag.specs.Sound.{sound, placeSound, atSecond, atStore}
-use Rattle.flag.specs.Refined.{abs, Sound}
+use Rattle.flag.specs.Refined.{number, abs, Sound}
 use Rattle.flag.specs.declared.state.State.{State}
 use Rattle.flag.proofs.Moved.{any-threads, few-threads, pending-agrees, entry-sound, place-small}
-use Rattle.flag.proofs.Loop.{waits-waiting}
+use Rattle.flag.proofs.Loop.{placed, waits-waiting}
 use Rattle.flag.proofs.Offers.{Handshake, test-handshake, handshake-test, handshake-protocol, protocol-handshake}
 
 -- ---------- an entry of the row
@@ -56,6 +58,19 @@ means-sound s i =
     let row = every-all (placeSound (s .threads)) 0 (s .places) (λ k b. entry-test (s .threads) k (place s k) (i .places k) (i .unused k)) in
     let agree = handshake-test (s .pending) (many atSecond (s .places)) (many atStore (s .places)) (sound-handshake s i) in
     rw (any, few) (true-both row agree)
+
+-- ---------- a sound state is told by what it stands for
+
+pub abs-tells : (s s′ : State) → Sound s → Sound s′ → abs s ≡ abs s′ → s ≡ s′
+abs-tells s s′ i i′ e =
+    let p : (k : ℕ) → place s k ≡ place s′ k = λ k. placed (place s k) (i .places k) ∙ ap (λ (m : Flag). number (m .controls k)) e
+    ∙ sym (placed (place s′ k) (i′ .places k)) in
+    λ j. record {
+      threads = e j .threads;
+      pending = e j .memory .pending;
+      value = e j .memory .value;
+      places = rows-alike (s .places) (s′ .places) 0 (i .whole ∙ sym (i′ .whole)) p j;
+    }
 
 -- ---------- a fresh flag
 

@@ -7,7 +7,8 @@ use lib.Dec.{eqb}
 use lib.ListN.{length}
 use Rattle.machine.specs.Machine.{Accepted}
 use Rattle.machine.specs.Replay.{AllAccepted, after}
-use Rattle.machine.specs.Sourced.{Sourced, Inductive, Upholds}
+use Rattle.machine.specs.Codes as code
+use Rattle.machine.specs.Sourced.{Line, line, Sourced, Inductive, Complete, Upholds}
 use Rattle.schedule.specs.Limits as limit
 use Rattle.schedule.specs.declared.steps.FlagStep.{FlagStep}
 use Rattle.schedule.specs.declared.steps.FlagStep.the-variants.{Begin, Move, Read}
@@ -68,10 +69,12 @@ pub record Sound (s : State) : Type 0 where
   pub places : (k : ℕ) → place s k ≤ 6
   pub unused : (k : ℕ) → s .threads ≤ k → place s k ≡ 0
 
--- ---------- enabled: the source's transition leads somewhere. No step counts, so that no counter's limit is ever reached
+-- ---------- the scope's table of codes, said of helping.rs. No step counts, so that no counter's limit is ever reached
 
-abbrev pub AtLimit : State → FlagStep → Type 0
-AtLimit s x = ⊥
+abbrev pub lines : Flag → Transition → List Line
+lines a (source.begin k) = line code.outside (a .threads ≤ k) ∷ line code.phase (a .controls k ≡ source.returned → ⊥) ∷ []
+lines a (source.move k) = line code.outside (a .threads ≤ k) ∷ line code.phase (a .controls k ≡ source.returned) ∷ []
+lines a (source.read k) = line code.outside (a .threads ≤ k) ∷ line code.phase (a .controls k ≡ source.returned → ⊥) ∷ []
 
 -- what the source hands out: `flip` the flips that an operation resolves, `read` the value. The offer taken is that of the thread that waits with it
 abbrev pub Resolved : Flag → ℕ → Resolves → List Entry → Type 0
@@ -94,9 +97,9 @@ helping =
       Moves = Moves;
       Safe = Safe;
       HandsOut = HandsOut;
+      lines = lines;
       abs = abs;
       label = label;
-      AtLimit = AtLimit;
     }
 
 -- ---------- a flip whose thread moves alone: over, or its next move is accepted and it is over within m moves after that
@@ -133,6 +136,8 @@ pub record Refines : Type 0 where
   -- the source's own proofs, over all of its states: it starts with its invariants, and its transitions keep them
   pub initial : (n : ℕ) (v : Bool) → FlagInv (source.new n v)
   pub inductive : Inductive helping FlagInv
+  -- its table: a transition leads somewhere exactly if no line applies
+  pub complete : Complete helping FlagInv
   -- the scope's table of places is the source's loop
   pub table : (c : Control) (m : Memory) → (c ≡ source.returned → ⊥)
       → went (number c) (m .pending) (m .value)

@@ -32,25 +32,29 @@ ids-snoc : (l : List Message) (m : Message) → ids (l ++ m ∷ []) ≡ ids l ++
 ids-snoc [] m = refl
 ids-snoc (x ∷ l) m = ap (λ (t : List ℕ). x .id ∷ t) (ids-snoc l m)
 
+pub asked-ids : {xs : List Message} (ws ys : List Message) (m : Message) → xs ≡ ws ++ m ∷ [] → ids ws ≡ ids ys → ids xs ≡ ids ys ++ m .id ∷ []
+asked-ids ws ys m x w = ap ids x ∙ ids-snoc ws m ∙ rw w
+
 -- ---------- a client's stage with its lists
 
 -- xs requests, ys combiner_sends, zs answers, oldest first; c the client; F: the combiner has nothing of it, G rid: it has this id
 pub data Stage (xs ys zs : List Message) (c : Client) (F : Type 0) (G : ℕ → Type 0) : Type 0 where
   at-rest : c ≡ zeroClient → ys ≡ zs → ids xs ≡ ids ys → F → Stage xs ys zs c F G
-  has-asked : (rid req : ℕ) → c ≡ asking rid req → ys ≡ zs → ids xs ≡ ids ys ++ rid ∷ [] → F → Stage xs ys zs c F G
+  has-asked : (rid req : ℕ) (ws : List Message) → c ≡ asking rid req → ys ≡ zs → xs ≡ ws ++ message rid req ∷ [] → ids ws ≡ ids ys → F
+      → Stage xs ys zs c F G
   was-gathered : (rid : ℕ) → c ≡ held rid → ys ≡ zs → ids xs ≡ ids ys ++ rid ∷ [] → G rid → Stage xs ys zs c F G
   was-answered : (rid resp : ℕ) → c ≡ answered rid resp → ys ≡ zs ++ message rid resp ∷ [] → ids xs ≡ ids ys → F → Stage xs ys zs c F G
 
 module _ {xs ys zs : List Message} {c : Client} {F : Type 0} {G : ℕ → Type 0} where
   client-send-stage : (rid req : ℕ) → not (c .waiting) ≡ true → Stage xs ys zs c F G → Stage (xs ++ message rid req ∷ []) ys zs (sending c rid req) F G
-  client-send-stage rid req t (at-rest e v w f) = has-asked rid req (rw e) v (ids-snoc xs (message rid req) ∙ rw w) f
-  client-send-stage rid req t (has-asked r q e v w f) = clash (cc)
+  client-send-stage rid req t (at-rest e v w f) = has-asked rid req xs (rw e) v refl w f
+  client-send-stage rid req t (has-asked r q ws e v x w f) = clash (cc)
   client-send-stage rid req t (was-gathered r e v w g) = clash (cc)
   client-send-stage rid req t (was-answered r q e v w f) = clash (cc)
 
   client-recv-stage : c .waiting ≡ true → not (c .slot) ≡ true → Stage xs ys zs c F G → Stage xs ys (zs ++ message (c .rid) (c .resp) ∷ []) (receiving c) F G
   client-recv-stage t u (at-rest e v w f) = clash (cc)
-  client-recv-stage t u (has-asked r q e v w f) = clash (cc)
+  client-recv-stage t u (has-asked r q ws e v x w f) = clash (cc)
   client-recv-stage t u (was-gathered r e v w g) = clash (cc)
   client-recv-stage t u (was-answered r q e v w f) = at-rest (rw e) (rw e v) w f
 
@@ -58,20 +62,20 @@ module _ {xs ys zs : List Message} {c : Client} {F : Type 0} {G : ℕ → Type 0
   -- the client stays as it is, and the combiner has of it what it had
   same-stage : (F → F′) → ((rid : ℕ) → G rid → G′ rid) → Stage xs ys zs c F G → Stage xs ys zs c F′ G′
   same-stage f g (at-rest e v w a) = at-rest e v w (f a)
-  same-stage f g (has-asked r q e v w a) = has-asked r q e v w (f a)
+  same-stage f g (has-asked r q ws e v x w a) = has-asked r q ws e v x w (f a)
   same-stage f g (was-gathered r e v w a) = was-gathered r e v w (g r a)
   same-stage f g (was-answered r q e v w a) = was-answered r q e v w (f a)
 
   combiner-recv-stage : c .slot ≡ true → ((rid : ℕ) → G rid → ⊥) → G′ (c .rid) → Stage xs ys zs c F G → Stage xs ys zs (gathering c) F′ G′
   combiner-recv-stage t n g (at-rest e v w f) = clash (cc)
-  combiner-recv-stage t n g (has-asked r q e v w f) = was-gathered r (rw e) v w (rw e at g)
+  combiner-recv-stage t n g (has-asked r q ws e v x w f) = was-gathered r (rw e) v (asked-ids ws ys (message r q) x w) (rw e at g)
   combiner-recv-stage t n g (was-gathered r e v w a) = absurd (n r a)
   combiner-recv-stage t n g (was-answered r q e v w f) = clash (cc)
 
   combiner-send-stage : (rid resp : ℕ) → (F → ⊥) → ((u : ℕ) → G u → u ≡ rid) → F′ → Stage xs ys zs c F G
       → Stage xs (ys ++ message rid resp ∷ []) zs (answering c resp) F′ G′
   combiner-send-stage rid resp n g f (at-rest e v w a) = absurd (n a)
-  combiner-send-stage rid resp n g f (has-asked r q e v w a) = absurd (n a)
+  combiner-send-stage rid resp n g f (has-asked r q ws e v x w a) = absurd (n a)
   combiner-send-stage rid resp n g f (was-gathered u e v w a) =
       was-answered rid resp (rw (e, g u a)) (rw v) (w ∙ rw (g u a) (sym (ids-snoc ys (message rid resp)))) f
   combiner-send-stage rid resp n g f (was-answered r q e v w a) = absurd (n a)
@@ -213,13 +217,13 @@ module _ (X Y Z : ℕ → List Message) (t : ℕ) (s : State) (i : Listed X Y Z 
 -- for each stage the shortest lists that fit it
 stage-lists : {c : Client} {F : Type 0} {G : ℕ → Type 0} → Stand c F G → (xs ys zs : List Message) × Stage xs ys zs c F G
 stage-lists (rests e f) = ([], [], [], at-rest e refl refl f)
-stage-lists (asks rid req e f) = (message rid req ∷ [], [], [], has-asked rid req e refl refl f)
+stage-lists (asks rid req e f) = (message rid req ∷ [], [], [], has-asked rid req [] e refl refl refl f)
 stage-lists (isHeld rid e g) = (message rid 0 ∷ [], [], [], was-gathered rid e refl refl g)
 stage-lists (isTold rid resp e f) = (message rid 0 ∷ [], message rid resp ∷ [], [], was-answered rid resp e refl refl f)
 
 list-stage : {xs ys zs : List Message} {c : Client} {F : Type 0} {G : ℕ → Type 0} → Stage xs ys zs c F G → Stand c F G
 list-stage (at-rest e v w f) = rests e f
-list-stage (has-asked rid req e v w f) = asks rid req e f
+list-stage (has-asked rid req ws e v x w f) = asks rid req e f
 list-stage (was-gathered rid e v w g) = isHeld rid e g
 list-stage (was-answered rid resp e v w f) = isTold rid resp e f
 

@@ -14,13 +14,15 @@ pub mod Flags
 pub mod Unused
 pub mod Sounds
 pub mod Kept
-pub mod Enabling
+pub mod Lines
+pub mod Told
 pub mod Posts
 pub mod Upheld
 pub mod Inductive
 pub mod Refines
 -- demand 3, and the tables
 pub mod Demands
+pub mod Exact
 pub mod Refuted
 pub mod Tabled
 pub mod Settled

@@ -1,4 +1,4 @@
--- What an accepted step does in the source: where it leads, to no other state, what it hands out, and that its deposits and withdrawals are safe. Assumes nothing.
+-- What an accepted step does in the source: where it leads, to no other state, and what it hands out, nothing else. Assumes nothing.
 use Prim.Native.Nat.{ℕ, _<_}
 use mathlib.Core.Path.{_≡_, refl, sym, ap, _∙_}
 use mathlib.Core.Bool.{Bool, true, false}
@@ -11,6 +11,7 @@ use borrow.Author.Tests.{ltb-true, eqb-true, not-true}
 use Rattle.rows.proofs.Cases.{clash}
 use Rattle.machine.specs.Map.{without}
 use Rattle.machine.specs.Machine.{Accepted}
+use Rattle.machine.proofs.Known.{one-held}
 use Rattle.schedule.specs.declared.steps.FlatStep.{FlatStep}
 use Rattle.schedule.specs.declared.steps.FlatStep.the-variants.{ClientSend, ClientRecv, CombinerRecv, CombinerSkip, CombinerGoToResponding}
 use Rattle.schedule.specs.declared.steps.FlatStep.the-variants.{CombinerSend, CombinerSendSkip, CombinerGoToCollecting}
@@ -21,13 +22,13 @@ use Rattle.flat.specs.Refined.{given, clientOf, gathered, abs, label, So
 use Rattle.flat.specs.declared.state.Client.{Client}
 use Rattle.flat.specs.declared.state.Elem.{Elem}
 use Rattle.flat.specs.declared.state.State.{State}
+use Rattle.flat.specs.declared.entry.Entry.{Entry}
 use Rattle.flat.proofs.Stages.{held, Stages, responding, gathered-room}
 use Rattle.flat.proofs.Unused.{in-clients, in-elems}
 use Rattle.flat.proofs.Values.{given-some}
 use Rattle.flat.proofs.Flags.{idle-rests, clear-told, had-held}
 use Rattle.flat.proofs.Elems.{gathered-more, gathered-length, gathered-at}
 use Rattle.flat.proofs.Sounds.{means-stages}
-use Rattle.flat.proofs.Inductive.{safe}
 use Rattle.flat.proofs.Maps.{same-machine, map-put, map-same}
 
 -- ---------- the maps as read off a client
@@ -200,10 +201,6 @@ module _ (s : State) (x : FlatStep) (h : Sound s) (a : Accepted flat s x) where
   pub accepted-moves : Moves (abs s) (label x) (abs (next s x))
   accepted-moves = moves s (means-stages s h) x a
 
-  -- as the source proves it of itself
-  pub accepted-safe : Safe (abs s) (label x)
-  accepted-safe = safe (label x) (abs s) (abs (next s x)) (h .inv) accepted-moves
-
 -- ---------- a transition that is safe has one state after it
 
 collecting-one : (m : FlatCombiner) (es fs : List (Option ℕ)) → m .combiner ≡ Collecting es → m .combiner ≡ Collecting fs → es ≡ fs
@@ -219,7 +216,7 @@ recv-one m p t v =
     let r = v .withdraws (t .1) (rw e (t .3)) in
     rw (v .update, e, r)
 
-moves-one : (l : Transition) (m p q : FlatCombiner) → Safe m l → Moves m l p → Moves m l q → p ≡ q
+pub moves-one : (l : Transition) (m p q : FlatCombiner) → Safe m l → Moves m l p → Moves m l q → p ≡ q
 moves-one (source.client-send j request) m p q t v w = v .update ∙ sym (w .update)
 moves-one (source.client-recv j) m p q t v w = v .update ∙ sym (w .update)
 moves-one source.combiner-recv m p q t v w = recv-one m p t v ∙ sym (recv-one m q t w)
@@ -232,9 +229,6 @@ moves-one source.combiner-send-skip m p q t v w =
     let e = responding-one m (v .elems) (w .elems) (v .j) (w .j) (v .require) (w .require) in
     rw (v .update, w .update, e .0, e .1)
 moves-one source.combiner-go-to-collecting m p q t v w = v .update ∙ sym (w .update)
-
-pub accepted-post : (s : State) (x : FlatStep) (to : FlatCombiner) → Sound s → Accepted flat s x → Moves (abs s) (label x) to → to ≡ abs (next s x)
-accepted-post s x to h a v = moves-one (label x) (abs s) to (abs (next s x)) (accepted-safe s x h a) v (accepted-moves s x h a)
 
 -- ---------- the log is what the source hands out
 
@@ -249,3 +243,14 @@ accepted-logs s CombinerGoToResponding h a = refl
 accepted-logs s (CombinerSend rid resp) h a = refl
 accepted-logs s CombinerSendSkip h a = refl
 accepted-logs s CombinerGoToCollecting h a = refl
+
+-- and it hands out nothing else
+pub hands-one : (y : Transition) (m : FlatCombiner) (es fs : List Entry) → HandsOut m y es → HandsOut m y fs → es ≡ fs
+hands-one (source.client-send j request) m es fs p q = p ∙ sym q
+hands-one (source.client-recv j) m es fs p q = rw (p .2, q .2, one-held (p .1) (q .1))
+hands-one source.combiner-recv m es fs p q = p ∙ sym q
+hands-one source.combiner-skip m es fs p q = p ∙ sym q
+hands-one source.combiner-go-to-responding m es fs p q = p ∙ sym q
+hands-one (source.combiner-send response) m es fs p q = p ∙ sym q
+hands-one source.combiner-send-skip m es fs p q = p ∙ sym q
+hands-one source.combiner-go-to-collecting m es fs p q = p ∙ sym q

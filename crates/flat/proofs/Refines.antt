@@ -2,6 +2,7 @@
 use Prim.Native.Nat.{ℕ, _≤_}
 use Rattle.machine.specs.History.{Run}
 use Rattle.machine.proofs.Runs.{always}
+use Rattle.machine.proofs.Reasons.{Owed, complete, upholds}
 use Rattle.schedule.specs.Limits as limit
 use Rattle.flat.specs.Source as source
 use Rattle.flat.specs.Source.{Transition}
@@ -9,14 +10,16 @@ use Rattle.schedule.specs.declared.steps.FlatStep.{FlatStep}
 use Rattle.schedule.specs.declared.steps.FlatStep.the-variants.{ClientSend, ClientRecv, CombinerRecv, CombinerSkip, CombinerGoToResponding, CombinerSend, CombinerSendSkip, CombinerGoToCollecting}
 use Rattle.flat.proofs.Inductive as source-own
 use mathlib.Core.Path.{_≡_, refl}
+use Rattle.flat.specs.Invariants.{Invariants}
 use Rattle.flat.specs.Flat.{flat, freshState}
-use Rattle.flat.specs.Refined.{Sound, label, Refines}
+use Rattle.flat.specs.Refined.{Sound, label, flatCombine, Refines}
 use Rattle.flat.specs.Demand.{Hist}
 use Rattle.flat.specs.declared.state.State.{State}
 use Rattle.flat.proofs.Sounds.{sound-means, means-sound, fresh-initialize, fresh-means, fresh-sound}
 use Rattle.flat.proofs.Kept.{accepted-sound}
-use Rattle.flat.proofs.Enabling.{accepted-enabled, enabled-accepted}
-use Rattle.flat.proofs.Posts.{accepted-moves, accepted-post, accepted-logs, accepted-safe}
+use Rattle.flat.proofs.Lines.{goes, clear, tells}
+use Rattle.flat.proofs.Told.{abs-tells}
+use Rattle.flat.proofs.Posts.{accepted-moves, moves-one, accepted-logs, hands-one}
 
 -- every transition of the source is some step's
 onto : (y : Transition) → (x : FlatStep) × (label x ≡ y)
@@ -29,6 +32,23 @@ onto (source.combiner-send response) = (CombinerSend (response .rid) (response .
 onto source.combiner-send-skip = (CombinerSendSkip, refl)
 onto source.combiner-go-to-collecting = (CombinerGoToCollecting, refl)
 
+owed : Owed flatCombine Invariants Sound
+owed =
+    record {
+      onto = onto;
+      inductive = record { kept = source-own.inductive; safe = source-own.safe };
+      goes = goes;
+      clear = λ y a to i v b. clear y a to v;
+      moves-one = λ y a p q i v. moves-one y a p q (source-own.safe y a p i v) v;
+      hands-one = λ y a es fs i. hands-one y a es fs;
+      inv = λ s h. h .inv;
+      tells = tells;
+      moves = accepted-moves;
+      logs = accepted-logs;
+      good = accepted-sound;
+      abs-tells = abs-tells;
+    }
+
 pub refines : Refines
 refines =
     record {
@@ -36,19 +56,10 @@ refines =
       fresh-sound = fresh-sound;
       sound-means = sound-means;
       means-sound = means-sound;
-      upholds =
-          record {
-            onto = onto;
-            accepted-enabled = accepted-enabled;
-            enabled-accepted = enabled-accepted;
-            accepted-moves = accepted-moves;
-            accepted-post = accepted-post;
-            accepted-logs = accepted-logs;
-            accepted-safe = accepted-safe;
-            accepted-good = accepted-sound;
-          };
+      upholds = upholds flatCombine Invariants Sound owed;
       initial = source-own.initialize-inductive;
-      inductive = record { kept = source-own.inductive; safe = source-own.safe };
+      inductive = owed .inductive;
+      complete = complete flatCombine Invariants Sound owed;
     }
 
 pub every-prefix-sound : (n : ℕ) → n ≤ limit.clients → {h : Hist} {s : State} → Run flat (freshState n) h s → Sound s

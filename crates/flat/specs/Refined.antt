@@ -5,8 +5,9 @@ use mathlib.Core.Bool.{Bool, true, false, cond}
 use mathlib.Core.List.{List, [], _∷_, map}
 use mathlib.Core.Option.{Option, none, some}
 use lib.Dec.{ltb}
-use lib.ListN.{length, take}
-use Rattle.machine.specs.Sourced.{Sourced, Inductive, Upholds}
+use lib.ListN.{length, getD, take}
+use Rattle.machine.specs.Codes as code
+use Rattle.machine.specs.Sourced.{Line, line, Sourced, Inductive, Complete, Upholds}
 use Rattle.schedule.specs.Limits as limit
 use Rattle.schedule.specs.declared.steps.FlatStep.{FlatStep}
 use Rattle.schedule.specs.declared.steps.FlatStep.the-variants.{ClientSend, ClientRecv, CombinerRecv, CombinerSkip, CombinerGoToResponding}
@@ -80,10 +81,44 @@ pub record Sound (s : State) : Type 0 where
   pub unused-elems : (j : ℕ) → s .len ≤ j → elem s j ≡ zeroElem
   pub unused-ids : (j : ℕ) → elem s j .present ≡ false → elem s j .rid ≡ 0
 
--- ---------- enabled: the source's transition leads somewhere. No step counts, so that no counter's limit is ever reached
+-- ---------- the scope's table of codes, said of flat_combine.rs. No step counts, so that no counter's limit is ever reached
 
-abbrev pub AtLimit : State → FlatStep → Type 0
-AtLimit s x = ⊥
+-- the combiner collects, and P of what it has gathered; it responds, and P of that and its cursor
+abbrev pub Collects : source.Combiner → (List (Option ℕ) → Type 0) → Type 0
+Collects (source.Collecting elems) P = P elems
+Collects (source.Responding elems j) P = ⊥
+
+abbrev pub Responds : source.Combiner → (List (Option ℕ) → ℕ → Type 0) → Type 0
+Responds (source.Collecting elems) P = ⊥
+Responds (source.Responding elems j) P = P elems j
+
+module _ (a : FlatCombiner) where
+  abbrev atWork : Line
+  atWork = line code.phase (Responds (a .combiner) (λ elems j. Unit {0}))
+
+  abbrev atRest : Line
+  atRest = line code.phase (Collects (a .combiner) (λ elems. Unit {0}))
+
+  abbrev pub lines : Transition → List Line
+  lines (source.client-send j request) =
+      line code.outside (a .num-clients ≤ j) ∷ line code.phase ((rid : ℕ) × (a .clients j ≡ some (source.Waiting rid))) ∷ []
+  lines (source.client-recv j) =
+      line code.outside (a .num-clients ≤ j) ∷ line code.phase (a .clients j ≡ some source.Idle) ∷ line code.slot (a .slots j ≡ some true) ∷ []
+  lines source.combiner-recv =
+      atWork
+      ∷ line code.cursor (Collects (a .combiner) (λ elems. a .num-clients ≤ length elems))
+      ∷ line code.slot (Collects (a .combiner) (λ elems. a .slots (length elems) ≡ some false)) ∷ []
+  lines source.combiner-skip = atWork ∷ line code.cursor (Collects (a .combiner) (λ elems. a .num-clients ≤ length elems)) ∷ []
+  lines source.combiner-go-to-responding = atWork ∷ line code.cursor (Collects (a .combiner) (λ elems. length elems ≡ a .num-clients → ⊥)) ∷ []
+  lines (source.combiner-send response) =
+      atRest
+      ∷ line code.cursor (Responds (a .combiner) (λ elems j. a .num-clients ≤ j))
+      ∷ line code.element (Responds (a .combiner) (λ elems j. getD elems j none ≡ some (response .rid) → ⊥)) ∷ []
+  lines source.combiner-send-skip =
+      atRest
+      ∷ line code.cursor (Responds (a .combiner) (λ elems j. a .num-clients ≤ j))
+      ∷ line code.element (Responds (a .combiner) (λ elems j. (rid : ℕ) × (getD elems j none ≡ some rid))) ∷ []
+  lines source.combiner-go-to-collecting = atRest ∷ line code.cursor (Responds (a .combiner) (λ elems j. j ≡ a .num-clients → ⊥)) ∷ []
 
 -- what the source hands out: client_recv the response that it withdraws
 abbrev pub HandsOut : FlatCombiner → Transition → List Entry → Type 0
@@ -105,9 +140,9 @@ flatCombine =
       Moves = Moves;
       Safe = Safe;
       HandsOut = HandsOut;
+      lines = lines;
       abs = abs;
       label = label;
-      AtLimit = AtLimit;
     }
 
 -- ---------- what is proved
@@ -124,3 +159,5 @@ pub record Refines : Type 0 where
   -- the source's own proofs, over all of its states: it starts with its invariants, and its transitions keep them
   pub initial : (n : ℕ) → Invariants (source.initialize n)
   pub inductive : Inductive flatCombine Invariants
+  -- its table: a transition leads somewhere exactly if no line applies
+  pub complete : Complete flatCombine Invariants

@@ -11,12 +11,13 @@ pub mod Upheld
 pub mod Changed
 pub mod Sounds
 pub mod Kept
-pub mod Enabling
+pub mod Lines
 pub mod Posts
 pub mod Inductive
 pub mod Refines
 -- demand 3, and the tables
 pub mod Demands
+pub mod Exact
 pub mod Refuted
 pub mod Tabled
 pub mod Settled

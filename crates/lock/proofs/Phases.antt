@@ -78,6 +78,18 @@ checking-stored (away t w) e = clash (cc)
 checking-stored (checking t w c l) e = (refl, refl)
 checking-stored (holding w) e = clash (cc)
 
+-- a writer that holds the guard has locked
+pub held-locked : {h : Head} → Phase h → h .guard ≡ true → h .locked ≡ true
+held-locked (away t w) e = clash (cc)
+held-locked (checking t w c l) e = clash (cc)
+held-locked (holding w) e = refl
+
+-- a record is in store while the writer has no guard
+pub stored-or-held : {h : Head} → Phase h → not (h .stored) ≡ h .guard
+stored-or-held (away t w) = refl
+stored-or-held (checking t w c l) = refl
+stored-or-held (holding w) = refl
+
 -- what is not in use is zero
 pub unused-record : {h : Head} → Phase h → h .stored ≡ false → h .t ≡ 0
 unused-record (away t w) e = clash (cc)

@@ -1,8 +1,9 @@
--- What an accepted step does in the source: where it leads, to no other state, what it hands out, and that its deposits and withdrawals are safe. Assumes nothing.
+-- What an accepted step does in the source: where it leads, to no other state, and what it hands out, nothing else. Assumes nothing.
 use Prim.Native.Nat.{ℕ}
 use mathlib.Core.Path.{_≡_, refl, sym, _∙_, ap}
 use mathlib.Core.Bool.{true}
-use mathlib.Core.Option.{some, Option·getD}
+use mathlib.Core.List.{List}
+use mathlib.Core.Option.{Option·getD}
 use native.Mathlib.Omega.{arith}
 use lib.Dec.{eqb, ltb}
 use borrow.Author.Tests.{eqb-true, ltb-true, not-true}
@@ -10,15 +11,17 @@ use Rattle.rows.proofs.Cases.{on}
 use Rattle.rows.proofs.Row.{row}
 use Rattle.machine.specs.Map.{at-key}
 use Rattle.machine.specs.Machine.{Accepted}
+use Rattle.machine.proofs.Known.{one-held}
 use Rattle.machine.proofs.Multisets.{only}
 use Rattle.schedule.specs.declared.steps.LockStep.{LockStep}
 use Rattle.schedule.specs.declared.steps.LockStep.the-variants.{ExcStart, ExcCheckCount, ExcFinish, ExcRelease, SharedStart, SharedFinish, SharedRelease}
 use Rattle.lock.specs.Source as source
-use Rattle.lock.specs.Source.{DistRwLock, Transition, Moves, Safe}
+use Rattle.lock.specs.Source.{DistRwLock, Transition, Moves}
 use Rattle.lock.specs.Lock.{lock, zeroCell, cell, withCell, next, logs}
 use Rattle.lock.specs.Refined.{abs, label, Sound, HandsOut}
 use Rattle.lock.specs.declared.state.Cell.{Cell}
 use Rattle.lock.specs.declared.state.State.{State}
+use Rattle.lock.specs.declared.entry.Entry.{Entry}
 use Rattle.lock.proofs.Filtered.{carrying-none, carrying-more, carrying-less}
 use Rattle.lock.proofs.Phases.{unlocked-away, checking-stored}
 use Rattle.lock.proofs.Plain.{guards, Plain}
@@ -26,7 +29,6 @@ use Rattle.lock.proofs.Upheld.{same-readers}
 use Rattle.lock.proofs.Sounds.{sound-plain}
 use Rattle.lock.proofs.Changed.{in-row, at-start, at-finish, at-release}
 use Rattle.lock.proofs.Kept.{plain-next}
-use Rattle.lock.proofs.Inductive.{safe}
 
 module _ (s : State) (p : Plain s) where
   -- ---------- the writer's steps. Where the record in store changes no guard stands, so that the guards are none of either record
@@ -118,25 +120,19 @@ plain-moves s (SharedRelease r t) p a = shared-release s p r t a
 
 -- ---------- a transition has one state after it
 
-same : {a b : ℕ} → some a ≡ some b → a ≡ b
-same e = cc
-
-moves-one : (l : Transition) (m p q : DistRwLock) → Moves m l p → Moves m l q → p ≡ q
+pub moves-one : (l : Transition) (m p q : DistRwLock) → Moves m l p → Moves m l q → p ≡ q
 moves-one source.exc-start m p q v w = v .update ∙ sym (w .update)
-moves-one source.exc-check-count m p q v w = rw (v .update, w .update, same (sym (v .removes) ∙ w .removes))
+moves-one source.exc-check-count m p q v w = rw (v .update, w .update, one-held (v .removes) (w .removes))
 moves-one source.exc-finish m p q v w = v .update ∙ sym (w .update)
 moves-one (source.exc-release t) m p q v w = v .update ∙ sym (w .update)
-moves-one (source.shared-start r) m p q v w = rw (v .update, w .update, same (sym (v .removes) ∙ w .removes))
+moves-one (source.shared-start r) m p q v w = rw (v .update, w .update, one-held (v .removes) (w .removes))
 moves-one (source.shared-finish r) m p q v w = v .update ∙ sym (w .update)
-moves-one (source.shared-release val) m p q v w = rw (v .update, w .update, same (sym (v .removes) ∙ w .removes))
+moves-one (source.shared-release val) m p q v w = rw (v .update, w .update, one-held (v .removes) (w .removes))
 
 pub accepted-moves : (s : State) (x : LockStep) → Sound s → Accepted lock s x → Moves (abs s) (label x) (abs (next s x))
 accepted-moves s x k a = plain-moves s x (sound-plain s k) a
 
-pub accepted-post : (s : State) (x : LockStep) (to : DistRwLock) → Sound s → Accepted lock s x → Moves (abs s) (label x) to → to ≡ abs (next s x)
-accepted-post s x to k a v = moves-one (label x) (abs s) to (abs (next s x)) v (accepted-moves s x k a)
-
--- ---------- the log is what the source hands out, and what it deposits, withdraws and adds is safe
+-- ---------- the log is what the source hands out
 
 pub accepted-logs : (s : State) (x : LockStep) → Sound s → Accepted lock s x → HandsOut (abs s) (label x) (logs s x)
 accepted-logs s ExcStart k a = refl
@@ -148,5 +144,12 @@ accepted-logs s (SharedFinish r) k a =
     (s .head .t, rw (unlocked-away (sound-plain s k .phase) (not-true (s .head .locked) (a .1 .0)) .0), refl)
 accepted-logs s (SharedRelease r t) k a = refl
 
-pub accepted-safe : (s : State) (x : LockStep) → Sound s → Accepted lock s x → Safe (abs s) (label x)
-accepted-safe s x k a = safe (label x) (abs s) (abs (next s x)) (k .inv) (accepted-moves s x k a)
+-- and it hands out nothing else
+pub hands-one : (y : Transition) (m : DistRwLock) (es fs : List Entry) → HandsOut m y es → HandsOut m y fs → es ≡ fs
+hands-one source.exc-start m es fs p q = p ∙ sym q
+hands-one source.exc-check-count m es fs p q = p ∙ sym q
+hands-one source.exc-finish m es fs p q = rw (p .2, q .2, one-held (p .1) (q .1))
+hands-one (source.exc-release t) m es fs p q = p ∙ sym q
+hands-one (source.shared-start r) m es fs p q = p ∙ sym q
+hands-one (source.shared-finish r) m es fs p q = rw (p .2, q .2, one-held (p .1) (q .1))
+hands-one (source.shared-release val) m es fs p q = p ∙ sym q

@@ -2,6 +2,7 @@
 use Prim.Native.Nat.{ℕ, _≤_}
 use Rattle.machine.specs.History.{Run}
 use Rattle.machine.proofs.Runs.{always}
+use Rattle.machine.proofs.Reasons.{Owed, complete, upholds}
 use Rattle.schedule.specs.Limits as limit
 use Rattle.lock.specs.Source as source
 use Rattle.lock.specs.Source.{Transition}
@@ -9,14 +10,15 @@ use Rattle.schedule.specs.declared.steps.LockStep.{LockStep}
 use Rattle.schedule.specs.declared.steps.LockStep.the-variants.{ExcStart, ExcCheckCount, ExcFinish, ExcRelease, SharedStart, SharedFinish, SharedRelease}
 use Rattle.lock.proofs.Inductive as source-own
 use mathlib.Core.Path.{_≡_, refl}
+use Rattle.lock.specs.Invariants.{Invariants}
 use Rattle.lock.specs.Lock.{lock, freshState}
-use Rattle.lock.specs.Refined.{label, Sound, Refines}
+use Rattle.lock.specs.Refined.{label, Sound, distRwLock, Refines}
 use Rattle.lock.specs.Demand.{Hist}
 use Rattle.lock.specs.declared.state.State.{State}
-use Rattle.lock.proofs.Sounds.{sound-means, means-sound, fresh-initialize, fresh-new, fresh-means, fresh-sound}
+use Rattle.lock.proofs.Sounds.{sound-means, means-sound, abs-tells, fresh-initialize, fresh-new, fresh-means, fresh-sound}
 use Rattle.lock.proofs.Kept.{accepted-sound}
-use Rattle.lock.proofs.Enabling.{accepted-enabled, enabled-accepted}
-use Rattle.lock.proofs.Posts.{accepted-moves, accepted-post, accepted-logs, accepted-safe}
+use Rattle.lock.proofs.Lines.{goes, clear, tells}
+use Rattle.lock.proofs.Posts.{accepted-moves, moves-one, accepted-logs, hands-one}
 
 -- every transition of the source is some step's
 onto : (y : Transition) → (x : LockStep) × (label x ≡ y)
@@ -28,6 +30,23 @@ onto (source.shared-start r) = (SharedStart r, refl)
 onto (source.shared-finish r) = (SharedFinish r, refl)
 onto (source.shared-release val) = (SharedRelease (val .0) (val .1), refl)
 
+owed : Owed distRwLock Invariants Sound
+owed =
+    record {
+      onto = onto;
+      inductive = record { kept = source-own.inductive; safe = source-own.safe };
+      goes = λ y a i. goes a i y;
+      clear = λ y a to i. clear a i y to;
+      moves-one = λ y a p q i. moves-one y a p q;
+      hands-one = λ y a es fs i. hands-one y a es fs;
+      inv = λ s k. k .inv;
+      tells = tells;
+      moves = accepted-moves;
+      logs = accepted-logs;
+      good = accepted-sound;
+      abs-tells = abs-tells;
+    }
+
 pub refines : Refines
 refines =
     record {
@@ -36,19 +55,10 @@ refines =
       fresh-sound = fresh-sound;
       sound-means = sound-means;
       means-sound = means-sound;
-      upholds =
-          record {
-            onto = onto;
-            accepted-enabled = accepted-enabled;
-            enabled-accepted = enabled-accepted;
-            accepted-moves = accepted-moves;
-            accepted-post = accepted-post;
-            accepted-logs = accepted-logs;
-            accepted-safe = accepted-safe;
-            accepted-good = accepted-sound;
-          };
+      upholds = upholds distRwLock Invariants Sound owed;
       initial = source-own.initialize-inductive;
-      inductive = record { kept = source-own.inductive; safe = source-own.safe };
+      inductive = owed .inductive;
+      complete = complete distRwLock Invariants Sound owed;
       guards-stored = source-own.do-guard-holds;
     }
 

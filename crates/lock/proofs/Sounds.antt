@@ -1,6 +1,6 @@
 -- The test of a state says what soundness means: the source's invariants, the limits, unused entries zero. Assumes nothing.
 use Prim.Native.Nat.{ℕ, _+_, _≤_, _<_}
-use mathlib.Core.Path.{_≡_, refl}
+use mathlib.Core.Path.{_≡_, refl, sym, ap, _∙_}
 use mathlib.Core.Bool.{Bool, true, false}
 use mathlib.Core.Logic.{inl, inr}
 use mathlib.Core.List.{List}
@@ -11,9 +11,10 @@ use lib.ListN.{length, length-replicate}
 use borrow.Author.Tests.{ltb-true, ltb-false, lt-ltb, le-ltb}
 use Rattle.rows.proofs.Cases.{on, clash}
 use Rattle.rows.proofs.Rows.{getD-replicate}
+use Rattle.machine.proofs.Known.{there-same, rows-alike}
 use Rattle.machine.proofs.Multisets.{only-here, only-other}
 use Rattle.schedule.specs.Limits as limit
-use Rattle.lock.specs.Source.{Initialize}
+use Rattle.lock.specs.Source.{DistRwLock, Initialize}
 use Rattle.lock.specs.Invariants.{ref-counts-domain, exc-inv, shared-inv-agree, shared-counts-agree, Invariants, New}
 use Rattle.lock.specs.Lock.{zeroCell, freshState, cell}
 use Rattle.lock.specs.Sound.{sound, mustBeClear}
@@ -160,6 +161,39 @@ sound-means s whole e = plain-sound s (test-plain s e whole)
 
 pub means-sound : (s : State) → Sound s → sound s ≡ true
 means-sound s k = plain-test s (sound-plain s k)
+
+-- ---------- a sound state is told by what it stands for
+
+module _ (s s′ : State) (k : Sound s) (k′ : Sound s′) (e : abs s ≡ abs s′) where
+  same-head : s .head ≡ s′ .head
+  same-head =
+      let h = s .head in let h′ = s′ .head in
+      let t = there-same (h .stored) (h′ .stored) (h .t) (h′ .t) 0 (k .unused-record) (k′ .unused-record) (ap (λ (m : DistRwLock). m .storage) e) in
+      let c = there-same (h .pending) (h′ .pending) (h .cursor) (h′ .cursor) 0 (k .unused-cursor) (k′ .unused-cursor) (ap (λ (m : DistRwLock). m .exc-pending) e) in
+      let g = there-same (h .guard) (h′ .guard) tt tt tt (λ z. refl) (λ z. refl) (ap (λ (m : DistRwLock). m .exc-guard) e) in
+      λ i. record {
+        t = t .1 i;
+        width = e i .rc-width;
+        cursor = c .1 i;
+        locked = e i .exc-locked;
+        stored = t .0 i;
+        pending = c .0 i;
+        guard = g .0 i;
+      }
+
+  same-cell : (r : ℕ) → cell s r ≡ cell s′ r
+  same-cell r =
+      let p : cell s r .pending ≡ cell s′ r .pending = ap (λ (m : DistRwLock). m .shared-pending r) e in
+      let u = s .head .t in
+      let g : cell s r .guards ≡ cell s′ r .guards =
+      sym (only-here u (cell s r .guards)) ∙ ap (λ (m : DistRwLock). m .shared-guard (r, u)) e
+      ∙ rw (← same-head) (only-here u (cell s′ r .guards))
+      in
+      let n : cell s r .count ≡ cell s′ r .count = omega (arith, sound-plain s k .cells r .counted, sound-plain s′ k′ .cells r .counted) in
+      λ i. record { count = n i; pending = p i; guards = g i }
+
+  pub abs-tells : s ≡ s′
+  abs-tells = λ i. record { head = same-head i; cells = rows-alike (s .cells) (s′ .cells) zeroCell (omega (arith, k .whole, k′ .whole)) same-cell i }
 
 -- ---------- a fresh lock
 

@@ -6,7 +6,8 @@ use mathlib.Core.List.{List, [], _∷_}
 use mathlib.Core.Option.{none, some}
 use lib.Dec.{eqb, ltb}
 use lib.ListN.{length}
-use Rattle.machine.specs.Sourced.{Sourced, Inductive, Upholds}
+use Rattle.machine.specs.Codes as code
+use Rattle.machine.specs.Sourced.{Line, line, Sourced, Inductive, Complete, Upholds}
 use Rattle.schedule.specs.Limits as limit
 use Rattle.schedule.specs.declared.steps.LockStep.{LockStep}
 use Rattle.schedule.specs.declared.steps.LockStep.the-variants.{ExcStart, ExcCheckCount, ExcFinish, ExcRelease, SharedStart, SharedFinish, SharedRelease}
@@ -55,16 +56,21 @@ pub record Sound (s : State) : Type 0 where
   pub unused-record : s .head .stored ≡ false → s .head .t ≡ 0
   pub unused-cursor : s .head .pending ≡ false → s .head .cursor ≡ 0
 
--- ---------- enabled: the source's transition leads somewhere, and the counter's limit is not reached
+-- ---------- the scope's table of codes, said of dist_rwlock.rs
 
-abbrev pub AtLimit : State → LockStep → Type 0
-AtLimit s ExcStart = ⊥
-AtLimit s ExcCheckCount = ⊥
-AtLimit s ExcFinish = ⊥
-AtLimit s (ExcRelease t) = ⊥
-AtLimit s (SharedStart r) = cell s r .count ≡ limit.counter
-AtLimit s (SharedFinish r) = ⊥
-AtLimit s (SharedRelease r t) = ⊥
+abbrev pub lines : DistRwLock → Transition → List Line
+lines a source.exc-start = line code.phase (a .exc-locked ≡ true) ∷ []
+lines a source.exc-check-count =
+    line code.phase (a .exc-pending ≡ none)
+    ∷ line code.cursor ((r : ℕ) × (a .exc-pending ≡ some r) × (a .rc-width ≤ r))
+    ∷ line code.count ((r count : ℕ) × (a .exc-pending ≡ some r) × (a .ref-counts r ≡ some count) × (count ≡ 0 → ⊥)) ∷ []
+lines a source.exc-finish =
+    line code.phase (a .exc-pending ≡ none) ∷ line code.cursor ((r : ℕ) × (a .exc-pending ≡ some r) × (r ≡ a .rc-width → ⊥)) ∷ []
+lines a (source.exc-release t) = line code.phase (a .exc-guard ≡ none) ∷ []
+lines a (source.shared-start r) = line code.outside (a .rc-width ≤ r) ∷ line code.full (a .ref-counts r ≡ some limit.counter) ∷ []
+lines a (source.shared-finish r) =
+    line code.outside (a .rc-width ≤ r) ∷ line code.phase (a .exc-locked ≡ true) ∷ line code.missing (a .shared-pending r ≡ 0) ∷ []
+lines a (source.shared-release val) = line code.outside (a .rc-width ≤ val .0) ∷ line code.missing (a .shared-guard val ≡ 0) ∷ []
 
 -- what the source hands out: exc_finish the record that it withdraws, shared_finish a guard with the record in store
 abbrev pub HandsOut : DistRwLock → Transition → List Entry → Type 0
@@ -85,9 +91,9 @@ distRwLock =
       Moves = Moves;
       Safe = Safe;
       HandsOut = HandsOut;
+      lines = lines;
       abs = abs;
       label = label;
-      AtLimit = AtLimit;
     }
 
 -- ---------- what is proved
@@ -105,5 +111,7 @@ pub record Refines : Type 0 where
   -- the source's own proofs, over all of its states: it starts with its invariants, and its transitions keep them
   pub initial : (w t : ℕ) (post : DistRwLock) → Initialize w t post → Invariants post
   pub inductive : Inductive distRwLock Invariants
+  -- its table: a transition leads somewhere, below the limit, exactly if no line applies
+  pub complete : Complete distRwLock Invariants
   -- the source's property follows from its invariants: a guard's value is the stored one
   pub guards-stored : (m : DistRwLock) → Invariants m → do-guard m

@@ -14,6 +14,8 @@ pub mod Answering
 pub mod Loops
 pub mod Rests
 -- a machine beside its source
+pub mod Known
+pub mod Reasons
 pub mod Sourceds
 -- an example to copy
 pub mod Toy

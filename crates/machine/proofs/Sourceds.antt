@@ -8,7 +8,6 @@ use lib.Seq.{take-append-seam}
 use Rattle.machine.specs.Machine.{Machine, codeOf}
 use Rattle.machine.specs.Replay.{Replayed, replay, AllAccepted, after, entries, Stopped, Finished, Told}
 use Rattle.machine.specs.Sourced.{Sourced, AllEnabled, Path, stay, move, StopsAt, Exact, Upholds}
-use Rattle.machine.proofs.Checks.{first-fails, fails-first, fails-nonzero}
 use Rattle.machine.proofs.Steps.{accepted-code}
 use Rattle.machine.proofs.Replays.{told, only, zero-all, all-replay}
 
@@ -60,7 +59,7 @@ module _ {m : Machine} (o : Sourced m) (Good : m .State → Type 0) (u : Upholds
           index = f .place;
           enabled = all-enabled s₀ (take (r .place) xs) g (t .accepted);
           disabled = λ e. n (sym code ∙ accepted-code m _ (f .step) (u .enabled-accepted _ (f .step) reached e));
-          reason = first-fails _ (r .code) code n;
+          reason = u .code-reason _ (f .step) (r .code) reached code n;
         }
 
     -- a first disabled step is where the replay stops, with that code
@@ -68,6 +67,7 @@ module _ {m : Machine} (o : Sourced m) (Good : m .State → Type 0) (u : Upholds
     refused k c p =
         let s = after m s₀ (p .before) in
         let q : Replayed m = record { code = c; place = length (p .before); log = entries m s₀ (p .before); state = s } in
+        let code = u .reason-code s (p .step) c (after-good s₀ (p .before) g (all-accepted s₀ (p .before) g (p .enabled))) (p .reason) in
         let seam : take (length (p .before)) xs ≡ p .before = rw (p .split) (take-append-seam (p .before) (p .step ∷ p .behind)) in
         let stop : Stopped m xs q =
         record {
@@ -75,8 +75,8 @@ module _ {m : Machine} (o : Sourced m) (Good : m .State → Type 0) (u : Upholds
           rest = p .behind;
           split = rw seam (p .split);
           place = rw seam;
-          refused = fails-first _ c (p .reason);
-          nonzero = fails-nonzero _ c (m .rising s (p .step)) (p .reason);
+          refused = code .0;
+          nonzero = code .1;
         }
         in
         let e : q ≡ r = only m s₀ xs q (record { accepted = rw seam (all-accepted s₀ (p .before) g (p .enabled)); state = rw seam; log = rw seam; ends = inr stop }) in

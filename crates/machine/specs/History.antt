@@ -1,4 +1,5 @@
 -- What an accepted history is, and counting in it. Demands are said of histories. Assumes nothing.
+use mathlib.Core.Path.{_≡_}
 use mathlib.Core.Bool.{Bool}
 use mathlib.Core.List.{List, [], _∷_, _++_}
 use Prim.Native.Nat.{ℕ}
@@ -45,3 +46,11 @@ module _ {X E : Type 0} where
   abbrev pub logOf : List (Event X E) → List E
   logOf [] = []
   logOf (e ∷ h) = logOf h ++ e .wrote
+
+  -- at each step of a history: P of what came before it, of the step and of what it logged
+  abbrev pub AtEach : (List (Event X E) → X → List E → Type 0) → List (Event X E) → Type 0
+  AtEach P h = (later : List (Event X E)) (e : Event X E) (before : List (Event X E)) → h ≡ later ++ (e ∷ before) → P before (e .did) (e .wrote)
+
+  -- after each part of a history, the whole and none of it too
+  abbrev pub Throughout : (List (Event X E) → Type 0) → List (Event X E) → Type 0
+  Throughout P h = (later before : List (Event X E)) → h ≡ later ++ before → P before

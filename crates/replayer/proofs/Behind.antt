@@ -38,15 +38,13 @@ use Rattle.flat_run.specs.Run as flatRun
 use Rattle.lock_run.specs.Run as lockRun
 use Rattle.counting_run.specs.Run as countingRun
 use Rattle.flag_run.specs.Run as flagRun
+use Rattle.replayer.specs.Kinds.{kindOf}
 use Rattle.replayer.specs.Replay.{replayed, answered, replayOf, inputOf, openedAs}
 
 -- ---------- parameters that passed the front are in their limits
 
 abbrev pub Allowed : Params → Type 0
-Allowed (Flat n) = n ≤ limit.clients
-Allowed (Lock w t) = (1 ≤ w) × (w ≤ limit.width)
-Allowed Counting = Unit {0}
-Allowed (Flag n v) = (1 ≤ n) × (n ≤ limit.threads)
+Allowed p = kindOf p .Within
 
 ready-allowed : (f : List ℕ) (from : ℕ) (r : Ready f from) → Allowed (paramsOf f r)
 ready-allowed f from (flatReady k l n) = n
@@ -60,7 +58,7 @@ opened-allowed f p from e =
     rw (s .params) (ready-allowed f from (s .ready))
 
 -- and so are those of a schedule that was decoded
-abbrev paramsIn : Schedule → Params
+abbrev pub paramsIn : Schedule → Params
 paramsIn (ofFlat n xs) = Flat n
 paramsIn (ofLock w t xs) = Lock w t
 paramsIn (ofCounting xs) = Counting

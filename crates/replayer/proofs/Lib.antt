@@ -2,7 +2,10 @@
 pub mod Behind
 pub mod Rooms
 pub mod Four
+pub mod ByKind
 pub mod Demands
+pub mod Settles
+pub mod Plainly
 pub mod Tabled
 pub mod Refuted
 pub mod Settled

@@ -1,22 +1,31 @@
--- No replayer that keeps the promise refuses or accepts everything, answers a constant, moves nothing, runs ahead, or invents an index or a log. Assumes
+-- No replayer that meets demands 1 and 2 refuses or accepts everything, answers a constant, moves nothing, runs ahead, or invents an index or a log. Assumes
 -- nothing.
 use mathlib.Core.Path.{_≡_, refl, sym, ap, _∙_}
-use mathlib.Core.List.{List, _∷_}
-use Prim.Native.Nat.{ℕ}
+use mathlib.Core.List.{List, [], _∷_}
+use mathlib.Core.Logic.{inr}
+use Prim.Native.Nat.{ℕ, zero, suc, _+_, _≤_, _<_}
+use borrow.Author.Tests.{lt-ltb, le-leb}
 use native.Mathlib.Omega.{arith}
-use lib.ListN.{getD, replicate}
-use Rattle.rows.specs.Bytes.{bytesAt}
+use lib.ListN.{length, getD, replicate, length-replicate}
+use Rattle.rows.specs.Bytes.{Bytes, bytesAt}
+use Rattle.rows.proofs.Cases.{clash}
+use Rattle.machine.specs.Codes as codes
 use Rattle.machine.specs.Rest.{Rested}
+use Rattle.schedule.specs.Limits as limit
+use Rattle.schedule.specs.declared.front.Fault.the-variants.{Length}
 use Rattle.machine.specs.Replay.{replay}
 use Rattle.schedule.specs.Front.{openedOf}
 use Rattle.schedule.specs.Reading.{measuredAt, placesFrom}
-use Rattle.schedule.specs.Schedule.{decode}
+use Rattle.schedule.specs.Schedule.{Schedule, ofFlat, ofLock, ofCounting, good, decode, encode}
+use Rattle.schedule.specs.Given.{Reader, WrongLength}
 use Rattle.schedule.specs.Language.{stepAt}
 use Rattle.schedule.specs.Widths.{widths, widthsOf}
-use Rattle.schedule.specs.declared.answer.Answer.{Answer}
-use Rattle.replayer.specs.Replay.{replayOf}
+use Rattle.replayer.specs.Replay.{replayOf, inputOf}
 use Rattle.replayer.specs.Cases.{p03, p05}
-use Rattle.replayer.specs.Imposters.{Replayer, Promised, sent, noSteps, on, NoImposter}
+use Rattle.replayer.specs.Imposters.{sent, noSteps, on, NoImposter, NoFalseReader}
+use Rattle.replayer.specs.Demands.{Replayer, Reads, Meets}
+use Rattle.replayer.proofs.Settles.{settles, reading-settles}
+use Rattle.replayer.proofs.Demands.{reads, demand1}
 
 abbrev at : List ℕ → Rested
 at f = replayOf f (replicate 50 0) (replicate 512 0)
@@ -50,21 +59,15 @@ seen =
       p5-image = refl;
     }
 
-module _ (r : Replayer) (h : Promised r) where
-  code : (f : List ℕ) → on r f .answer .code ≡ at f .code
-  code f = ap (λ (a : Answer). a .code) (h f (replicate 50 0) (replicate 512 0) .answer)
+module _ (r : Replayer) (h : Meets r) where
+  same : (f : List ℕ) → on r f ≡ at f
+  same f = settles r h f (replicate 50 0) (replicate 512 0)
 
-  place : (f : List ℕ) → on r f .answer .place ≡ at f .place
-  place f = ap (λ (a : Answer). a .place) (h f (replicate 50 0) (replicate 512 0) .answer)
-
-  logged : (f : List ℕ) → on r f .answer .logged ≡ at f .logged
-  logged f = ap (λ (a : Answer). a .logged) (h f (replicate 50 0) (replicate 512 0) .answer)
-
-  log : (f : List ℕ) → on r f .log ≡ at f .log
-  log f = h f (replicate 50 0) (replicate 512 0) .log
+  code : (f : List ℕ) → on r f .code ≡ at f .code
+  code f = ap (λ (a : Rested). a .code) (same f)
 
   image : (f : List ℕ) → on r f .image ≡ at f .image
-  image f = h f (replicate 50 0) (replicate 512 0) .image
+  image f = ap (λ (a : Rested). a .image) (same f)
 
   -- its images' first bytes
   first : (f : List ℕ) → getD (on r f .image) 0 0 ≡ getD (at f .image) 0 0
@@ -75,14 +78,73 @@ module _ (r : Replayer) (h : Promised r) where
       record {
         refuses-everything = λ n. n (p03 .file) (replicate 50 0) (replicate 512 0) (code (p03 .file) ∙ seen .p3-code);
         accepts-everything = λ n. omega (arith, n (p05 .file) (replicate 50 0) (replicate 512 0), code (p05 .file), seen .p5-code);
-        constant = λ a n.
-            let x : on r (p03 .file) .answer .code ≡ a .code = ap (λ (b : Answer). b .code) (n (p03 .file) (replicate 50 0) (replicate 512 0)) in
-            let y : on r (p05 .file) .answer .code ≡ a .code = ap (λ (b : Answer). b .code) (n (p05 .file) (replicate 50 0) (replicate 512 0)) in
-            omega (arith, x, y, code (p03 .file), code (p05 .file), seen .p3-code, seen .p5-code);
+        constant = λ c n.
+            omega (arith, n (p03 .file) (replicate 50 0) (replicate 512 0), n (p05 .file) (replicate 50 0) (replicate 512 0), code (p03 .file), code (p05 .file), seen .p3-code, seen .p5-code);
         moves-nothing = λ e. omega (arith, ap (λ (l : List ℕ). getD l 0 0) e, first sent, first noSteps, seen .sent-first, seen .none-first);
         all-at-step-one = λ e. omega (arith, ap (λ (l : List ℕ). getD l 0 0) e, first sent, first (p03 .file), seen .sent-first, seen .p3-first);
         refused-step-moves-nothing = image (p05 .file) ∙ seen .p5-image ∙ sym (image sent);
-        index-is-the-steps = place (p05 .file) ∙ seen .p5-place;
-        empty-log = λ n. omega (arith, n (p03 .file) (replicate 50 0) (replicate 512 0), logged (p03 .file), seen .p3-logged);
-        log-is-the-answer = log (p03 .file) ∙ seen .p3-log;
+        index-is-the-steps = ap (λ (a : Rested). a .place) (same (p05 .file)) ∙ seen .p5-place;
+        empty-log = λ n. omega (arith, n (p03 .file) (replicate 50 0) (replicate 512 0), ap (λ (a : Rested). a .logged) (same (p03 .file)), seen .p3-logged);
+        log-is-the-answer = ap (λ (a : Rested). a .log) (same (p03 .file)) ∙ seen .p3-log;
       }
+
+-- ---------- false readers
+
+noSteps-bytes : Bytes noSteps
+noSteps-bytes zero = omega arith
+noSteps-bytes (suc zero) = omega arith
+noSteps-bytes (suc (suc zero)) = omega arith
+noSteps-bytes (suc (suc (suc zero))) = omega arith
+noSteps-bytes (suc (suc (suc (suc zero)))) = omega arith
+noSteps-bytes (suc (suc (suc (suc (suc i))))) = omega arith
+
+noSteps-read : decode noSteps ≡ good (ofFlat 1 [])
+unfolding decode openedOf placesFrom measuredAt widths widthsOf stepAt bytesAt
+noSteps-read = refl
+
+pub no-false-reader : (D : Reader) → ((f : List ℕ) → Reads D f) → NoFalseReader D
+no-false-reader D h =
+    record {
+      empty = λ n.
+          let x : D noSteps ≡ good (ofCounting []) = n noSteps (reads noSteps .given .none (ofFlat 1 []) noSteps-read) in
+          let y : D noSteps ≡ good (ofFlat 1 []) = reading-settles D h noSteps noSteps-bytes ∙ noSteps-read in
+          clash (cc);
+      apart = λ f g s b c p q. sym (h f .again s b p .0) ∙ h g .again s c q .0;
+    }
+
+-- of lists that are no bytes the file of what is read may be another: a record that ends in 300 is written as 1, 44
+abbrev noBytes : List ℕ
+noBytes = 1 ∷ 0 ∷ 6 ∷ 2 ∷ 1 ∷ 0 ∷ 0 ∷ 0 ∷ 300 ∷ []
+
+noBytes-read : decode noBytes ≡ good (ofLock 1 300 [])
+unfolding decode openedOf placesFrom measuredAt widths widthsOf stepAt bytesAt
+noBytes-read = refl
+
+noBytes-again : getD (encode (ofLock 1 300 [])) 8 0 ≡ 44
+unfolding encode
+noBytes-again = refl
+
+pub bytes-needed : ((f : List ℕ) (s : Schedule) → decode f ≡ good s → encode s ≡ f) → ⊥
+bytes-needed h = omega (arith, noBytes-again, ap (λ (l : List ℕ). getD l 8 0) (h noBytes (ofLock 1 300 []) noBytes-read))
+
+-- ---------- an input over the largest file: `replay_input` answers 3 before all other tests, and so does not meet demand 1 there
+
+module _ (t : List ℕ) (long : limit.body < length t) where
+  abbrev untold : List ℕ
+  untold = 1 ∷ 0 ∷ 0 ∷ t
+
+  input-says : inputOf untold [] [] .code ≡ codes.body
+  input-says = let h : limit.body + 3 < length untold = omega arith in rw (lt-ltb (limit.body + 3) (length untold) h)
+
+  file-says : WrongLength untold
+  unfolding bytesAt
+  file-says = let h : 3 ≤ length untold = omega arith in inr (rw (le-leb 3 (length untold) h) (λ e. omega arith))
+
+  replay-says : replayOf untold [] [] .code ≡ codes.length
+  replay-says = ap (λ (a : Rested). a .code) (demand1 untold [] [] .fault Length (reads untold .given .code1 .given file-says))
+
+  over-long : Meets inputOf → ⊥
+  over-long m = omega (arith, input-says, replay-says, ap (λ (a : Rested). a .code) (settles inputOf m untold [] []))
+
+pub input-apart : Meets inputOf → ⊥
+input-apart = over-long (replicate 49153 0) (rw length-replicate (omega arith))

@@ -1,4 +1,6 @@
 pub mod Replay
+pub mod Kinds
+pub mod Demands
+pub mod Plain
 pub mod Cases
 pub mod Imposters
-pub mod Demands

@@ -108,7 +108,7 @@ module _ (f : List ℕ) where
       ready-given (λ d. (s : Schedule) × (d ≡ good s)) (w .framed) (w .ready)
       (λ S l make. (make (map (stepAt l f) (placesOf (getD f 3 0) f (w .all))), rw (whole-placed (getD f 3 0) f limit.steps 0 (w .all) (omega arith) (w .few))))
 
-pub faults-given : (f : List ℕ) → FaultsGiven f
+pub faults-given : (f : List ℕ) → FaultsGiven decode f
 faults-given f =
     record {
       code1 = record { when = says f (faulty Length); given = λ w. front-given f Length (length-opened f w) };

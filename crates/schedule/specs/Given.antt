@@ -1,4 +1,4 @@
--- When each fault is given: the scope's table of codes 1 to 7, "given exactly when", line by line. Proved in proofs/Given.antt. Assumes nothing.
+-- When each fault is given: the scope's table of codes 1 to 7, "given exactly when", line by line. Proved of `decode` in proofs/Given.antt. Assumes nothing.
 use mathlib.Core.Path.{_≡_}
 use mathlib.Core.Logic.{_⊎_}
 use mathlib.Core.List.{List}
@@ -8,14 +8,18 @@ use Rattle.rows.specs.Bytes.{numberAt}
 use Rattle.schedule.specs.Limits as limit
 use Rattle.schedule.specs.Widths as kind
 use Rattle.schedule.specs.Widths.{lengthOf}
-use Rattle.schedule.specs.Schedule.{Schedule, faulty, good, decode}
+use Rattle.schedule.specs.Schedule.{Schedule, Decoded, faulty, good}
 use Rattle.schedule.specs.declared.front.Fault.{Fault}
 use Rattle.schedule.specs.declared.front.Fault.the-variants.{Length, Version, Body, Kind, Parameter, Step, Surplus}
 
--- the fault is given exactly when p
-pub record Exactly (f : List ℕ) (fault : Fault) (p : Type 0) : Type 0 where
-  pub when : decode f ≡ faulty fault → p
-  pub given : p → decode f ≡ faulty fault
+-- what reads a file: `decode` does
+abbrev pub Reader : Type 0
+Reader = List ℕ → Decoded
+
+-- the reader gives the fault exactly when p
+pub record Exactly (D : Reader) (f : List ℕ) (fault : Fault) (p : Type 0) : Type 0 where
+  pub when : D f ≡ faulty fault → p
+  pub given : p → D f ≡ faulty fault
 
 -- ---------- the front, test after test
 
@@ -114,13 +118,13 @@ pub record WellFormed (f : List ℕ) : Type 0 where
 
 -- ---------- the seven lines of the table, and the eighth that is none of them
 
-pub record FaultsGiven (f : List ℕ) : Type 0 where
-  pub code1 : Exactly f Length (WrongLength f)
-  pub code2 : Exactly f Version (WrongVersion f)
-  pub code3 : Exactly f Body (LongBody f)
-  pub code4 : Exactly f Kind (UnknownKind f)
-  pub code5 : Exactly f Parameter (WrongParameter f)
-  pub code6 : (k : ℕ) → Exactly f (Step k) (BrokenStep f k)
-  pub code7 : Exactly f Surplus (SurplusBytes f)
-  pub none : (s : Schedule) → decode f ≡ good s → WellFormed f
-  pub sound : WellFormed f → (s : Schedule) × (decode f ≡ good s)
+pub record FaultsGiven (D : Reader) (f : List ℕ) : Type 0 where
+  pub code1 : Exactly D f Length (WrongLength f)
+  pub code2 : Exactly D f Version (WrongVersion f)
+  pub code3 : Exactly D f Body (LongBody f)
+  pub code4 : Exactly D f Kind (UnknownKind f)
+  pub code5 : Exactly D f Parameter (WrongParameter f)
+  pub code6 : (k : ℕ) → Exactly D f (Step k) (BrokenStep f k)
+  pub code7 : Exactly D f Surplus (SurplusBytes f)
+  pub none : (s : Schedule) → D f ≡ good s → WellFormed f
+  pub sound : WellFormed f → (s : Schedule) × (D f ≡ good s)
