@@ -59,7 +59,7 @@ HandsOut pre source.readable-to-writeable es = (t : ℕ) × (pre .stored ≡ som
 HandsOut pre source.new-ref es = (count t : ℕ) × (pre .main-counter ≡ some (count, t)) × (es ≡ Granted t ∷ [])
 HandsOut pre (source.delete-ref t1) es = es ≡ []
 
--- the machine beside counting.rs: `Enabled`, `Path` and `Exact` of machine/specs/Sourced.antt are said of it
+-- the machine beside counting.rs: `Enabled`, `Route` and `Exact` of machine/specs/Sourced.antt are said of it
 abbrev pub countingPermissions : Sourced counting
 countingPermissions =
     record {

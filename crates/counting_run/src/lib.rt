@@ -9,7 +9,6 @@ use schedule::answer;
 use schedule::answer::Answer;
 use schedule::count;
 use schedule::count::Counted;
-use schedule::front;
 use schedule::kinds;
 use schedule::lengths;
 use schedule::limits;
@@ -130,7 +129,7 @@ pub fn rest(file: &[u8], from: usize, log: &mut [u8], image: &mut [u8]) -> Answe
 {
     let fresh = state::fresh();
     match count::count(kinds::COUNTING, file, from) {
-        Counted::Faulty(f) => answer::refused(front::code(f), front::place(f)),
+        Counted::Faulty(f) => answer::of_fault(f),
         Counted::Steps(n) => replayed(file, from, n, fresh, log, image),
     }
 }

@@ -88,7 +88,7 @@ HandsOut pre (source.begin k) es = es ≡ []
 HandsOut pre (source.move k) es = Resolved pre k (resolves (pre .controls k) (pre .memory)) es
 HandsOut pre (source.read k) es = es ≡ Saw k (pre .memory .value) ∷ []
 
--- the machine beside helping.rs: `Enabled`, `Path` and `Exact` of machine/specs/Sourced.antt are said of it
+-- the machine beside helping.rs: `Enabled`, `Route` and `Exact` of machine/specs/Sourced.antt are said of it
 abbrev pub helping : Sourced flag
 helping =
     record {

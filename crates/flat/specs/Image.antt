@@ -18,6 +18,19 @@ use Rattle.flat.specs.declared.entry.Entry.the-variants.{Answer}
 abbrev pub entryBytes : Entry → List ℕ
 entryBytes (Answer j rid resp) = 9 ∷ j ∷ (big 4 rid ++ big 4 resp)
 
+-- how many bytes of the image a message, a client, the mask with the combiner, and an element take
+abbrev pub messageLong : ℕ
+messageLong = 9
+
+abbrev pub clientLong : ℕ
+clientLong = 23
+
+abbrev pub combinerLong : ℕ
+combinerLong = 5
+
+abbrev pub elemLong : ℕ
+elemLong = 5
+
 -- present, rid, payload; absent as zeros
 abbrev pub messageBytes : Bool → ℕ → ℕ → List ℕ
 messageBytes there rid load = boolByte there ∷ (big 4 (cond there rid 0) ++ big 4 (cond there load 0))

@@ -131,7 +131,7 @@ HandsOut pre (source.combiner-send response) es = es ≡ []
 HandsOut pre source.combiner-send-skip es = es ≡ []
 HandsOut pre source.combiner-go-to-collecting es = es ≡ []
 
--- the machine beside flat_combine.rs: `Enabled`, `Path` and `Exact` of machine/specs/Sourced.antt are said of it
+-- the machine beside flat_combine.rs: `Enabled`, `Route` and `Exact` of machine/specs/Sourced.antt are said of it
 abbrev pub flatCombine : Sourced flat
 flatCombine =
     record {

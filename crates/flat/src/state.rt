@@ -10,7 +10,7 @@ ghost use Rattle.rows.specs.Walk.{pieces};
 ghost use Rattle.rows.specs.Mask as slots;
 ghost use Rattle.schedule.specs.Limits as limit;
 ghost use Rattle.flat.specs.Flat.{freshState, freshOf};
-ghost use Rattle.flat.specs.Image.{imageBytes, clientBytes, messageBytes, elemBytes, combinerBytes, slotOf, inUse};
+ghost use Rattle.flat.specs.Image.{imageBytes, clientBytes, messageBytes, elemBytes, combinerBytes, slotOf, inUse, messageLong, clientLong, combinerLong, elemLong};
 
 // A client, its slot, the request and the response stored for it. Both carry the client's own id, so it stands once; `req` and `resp` are 0
 // where none is stored.
@@ -87,13 +87,20 @@ fn idle(count: u8, code: u8) -> Made
 
 // ---- the image: the clients, their slots as one mask, the combiner and what it gathered
 
+// How many bytes a client, the mask with the combiner, and an element take.
+const CLIENT: usize = 23;
+
+const COMBINER: usize = 5;
+
+const ELEM: usize = 5;
+
 // The image at the front of the buffer, or nothing where it does not fit; the answer is its length.
 pub fn image(s: State, out: &mut [u8]) -> usize
     ensures { λ r. ⌜ Laid (now (out .entry)) 0 (imageBytes s) r (now (out .exit)) ⌝ }
 {
     let n = in_use(s.count);
     let g = in_use(s.len);
-    if out.len() < 23 * n + 5 + 5 * g {
+    if out.len() < CLIENT * n + COMBINER + ELEM * g {
         return 0;
     }
     let a = put_clients(out, 0, s, n);
@@ -121,7 +128,7 @@ fn shown(there: bool, x: u32) -> u32
 }
 
 fn put_client(out: &mut [u8], at: usize, c: Client) -> usize
-    requires { ⌜ at + 23 ≤ length (now out) ⌝ }
+    requires { ⌜ at + clientLong ≤ length (now out) ⌝ }
     ensures { λ r. ⌜ Laid (now (out .entry)) at (clientBytes c) r (now (out .exit)) ⌝ }
 {
     let p = rows::put1(out, at, c.waiting as u8);
@@ -132,7 +139,7 @@ fn put_client(out: &mut [u8], at: usize, c: Client) -> usize
 
 // A request or a response: present, id, payload, absent as zeros.
 fn put_message(out: &mut [u8], at: usize, there: bool, rid: u32, load: u32) -> usize
-    requires { ⌜ at + 9 ≤ length (now out) ⌝ }
+    requires { ⌜ at + messageLong ≤ length (now out) ⌝ }
     ensures { λ r. ⌜ Laid (now (out .entry)) at (messageBytes there rid load) r (now (out .exit)) ⌝ }
 {
     let p = rows::put1(out, at, there as u8);
@@ -143,7 +150,7 @@ fn put_message(out: &mut [u8], at: usize, there: bool, rid: u32, load: u32) -> u
 // The first n clients from a place of the buffer on.
 fn put_clients(out: &mut [u8], at: usize, s: State, n: usize) -> usize
     requires { ⌜ n ≤ limit.clients ⌝ }
-    requires { ⌜ at + 23 * n ≤ length (now out) ⌝ }
+    requires { ⌜ at + clientLong * n ≤ length (now out) ⌝ }
     ensures { λ r. ⌜ Laid (now (out .entry)) at (pieces clientBytes (take n (s .clients))) r (now (out .exit)) ⌝ }
 {
     let mut i: usize = 0;
@@ -171,7 +178,7 @@ fn mask(s: State) -> u16
 }
 
 fn put_combiner(out: &mut [u8], at: usize, s: State) -> usize
-    requires { ⌜ at + 5 ≤ length (now out) ⌝ }
+    requires { ⌜ at + combinerLong ≤ length (now out) ⌝ }
     ensures { λ r. ⌜ Laid (now (out .entry)) at (combinerBytes s) r (now (out .exit)) ⌝ }
 {
     let p = rows::put2(out, at, mask(s));
@@ -183,7 +190,7 @@ fn put_combiner(out: &mut [u8], at: usize, s: State) -> usize
 // The first n elements from a place of the buffer on.
 fn put_elems(out: &mut [u8], at: usize, s: State, n: usize) -> usize
     requires { ⌜ n ≤ limit.clients ⌝ }
-    requires { ⌜ at + 5 * n ≤ length (now out) ⌝ }
+    requires { ⌜ at + elemLong * n ≤ length (now out) ⌝ }
     ensures { λ r. ⌜ Laid (now (out .entry)) at (pieces elemBytes (take n (s .elems))) r (now (out .exit)) ⌝ }
 {
     let mut i: usize = 0;
@@ -197,7 +204,7 @@ fn put_elems(out: &mut [u8], at: usize, s: State, n: usize) -> usize
 }
 
 fn put_elem(out: &mut [u8], at: usize, e: Elem) -> usize
-    requires { ⌜ at + 5 ≤ length (now out) ⌝ }
+    requires { ⌜ at + elemLong ≤ length (now out) ⌝ }
     ensures { λ r. ⌜ Laid (now (out .entry)) at (elemBytes e) r (now (out .exit)) ⌝ }
 {
     let p = rows::put1(out, at, e.present as u8);

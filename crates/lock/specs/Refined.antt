@@ -82,7 +82,7 @@ HandsOut pre (source.shared-start r) es = es ≡ []
 HandsOut pre (source.shared-finish r) es = (t : ℕ) × (pre .storage ≡ some t) × (es ≡ Granted r t ∷ [])
 HandsOut pre (source.shared-release val) es = es ≡ []
 
--- the machine beside dist_rwlock.rs: `Enabled`, `Path` and `Exact` of machine/specs/Sourced.antt are said of it
+-- the machine beside dist_rwlock.rs: `Enabled`, `Route` and `Exact` of machine/specs/Sourced.antt are said of it
 abbrev pub distRwLock : Sourced lock
 distRwLock =
     record {

@@ -3,11 +3,14 @@ use mathlib.Core.Path.{_≡_, sym, ap, _∙_}
 use mathlib.Core.Logic.{_⊎_, inl, inr}
 use mathlib.Core.List.{List, [], _∷_}
 use Prim.Native.Nat.{ℕ}
+use borrow.Author.Tests.{eqb-true, eqb-false}
+use lib.Dec.{eqb}
 use lib.ListN.{length, take}
 use lib.Seq.{take-append-seam}
+use Rattle.rows.proofs.Cases.{on}
 use Rattle.machine.specs.Machine.{Machine, codeOf}
 use Rattle.machine.specs.Replay.{Replayed, replay, AllAccepted, after, entries, Stopped, Finished, Told}
-use Rattle.machine.specs.Sourced.{Sourced, AllEnabled, Path, stay, move, StopsAt, Exact, Upholds}
+use Rattle.machine.specs.Sourced.{Sourced, AllEnabled, Route, stay, move, StopsAt, Exact, Upholds}
 use Rattle.machine.proofs.Steps.{accepted-code}
 use Rattle.machine.proofs.Replays.{told, only, zero-all, all-replay}
 
@@ -28,11 +31,11 @@ module _ {m : Machine} (o : Sourced m) (Good : m .State → Type 0) (u : Upholds
   after-good s [] g a = g
   after-good s (x ∷ xs) g a = after-good (m .next s x) xs (u .accepted-good s x g (a .0)) (a .1)
 
-  -- accepted steps are a path of the source, and their entries what it hands out
-  pub accepted-path : (s : m .State) (xs : List (m .Step)) → Good s → AllAccepted m s xs → Path o (o .abs s) xs (entries m s xs) (o .abs (after m s xs))
-  accepted-path s [] g a = stay
-  accepted-path s (x ∷ xs) g a =
-      move (u .accepted-moves s x g (a .0)) (u .accepted-safe s x g (a .0)) (u .accepted-logs s x g (a .0)) (accepted-path (m .next s x) xs (u .accepted-good s x g (a .0)) (a .1))
+  -- accepted steps are a route of the source, and their entries what it hands out
+  pub accepted-route : (s : m .State) (xs : List (m .Step)) → Good s → AllAccepted m s xs → Route o (o .abs s) xs (entries m s xs) (o .abs (after m s xs))
+  accepted-route s [] g a = stay
+  accepted-route s (x ∷ xs) g a =
+      move (u .accepted-moves s x g (a .0)) (u .accepted-safe s x g (a .0)) (u .accepted-logs s x g (a .0)) (accepted-route (m .next s x) xs (u .accepted-good s x g (a .0)) (a .1))
 
   -- ---------- a whole replay
 
@@ -96,5 +99,25 @@ module _ {m : Machine} (o : Sourced m) (Good : m .State → Type 0) (u : Upholds
           refuses = refused;
           state = t .state;
           log = t .log;
-          path = rw (t .log, t .state) (accepted-path s₀ (take (r .place) xs) g (t .accepted));
+          route = rw (t .log, t .state) (accepted-route s₀ (take (r .place) xs) g (t .accepted));
         }
+
+-- ---------- one answer goes exactly by the source
+
+module _ {m : Machine} (o : Sourced m) (s : m .State) (xs : List (m .Step)) (r q : Replayed m) (e : Exact o s xs r) (d : Exact o s xs q) where
+  -- where all is enabled both end, and else both stop at the first disabled step
+  same-end : (r .place ≡ q .place) × (r .code ≡ q .code)
+  same-end = on (eqb (q .code) 0)
+      (λ b. let z = eqb-true (q .code) 0 b in let a = d .all-enabled z in
+      let x = e .accepts a in let y = d .accepts a in
+      (x .1 ∙ sym (y .1), x .0 ∙ sym (y .0)))
+      (λ b. e .refuses (q .place) (q .code) (d .stops (eqb-false (q .code) 0 b)))
+
+  same-state : r .state ≡ q .state
+  same-state = e .state ∙ ap (λ (n : ℕ). after m s (take n xs)) (same-end .0) ∙ sym (d .state)
+
+  same-log : r .log ≡ q .log
+  same-log = e .log ∙ ap (λ (n : ℕ). entries m s (take n xs)) (same-end .0) ∙ sym (d .log)
+
+  pub one-exact : r ≡ q
+  one-exact = λ i. record { code = same-end .1 i; place = same-end .0 i; log = same-log i; state = same-state i }

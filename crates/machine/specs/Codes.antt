@@ -6,8 +6,8 @@ abbrev pub accepted : ℕ
 accepted = 0
 
 -- under 4 bytes, or wrong body length
-abbrev pub length : ℕ
-length = 1
+abbrev pub wrongLength : ℕ
+wrongLength = 1
 
 -- a version that is not 1
 abbrev pub version : ℕ

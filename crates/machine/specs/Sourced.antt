@@ -63,10 +63,10 @@ module _ {m : Machine} (o : Sourced m) where
   AllEnabled s (x ∷ xs) = Enabled s x × AllEnabled (m .next s x) xs
 
   -- the source goes by these transitions from one of its states to another, and hands out these entries
-  pub data Path : o .Source → List (m .Step) → List (m .Entry) → o .Source → Type 0 where
-    stay : {a : o .Source} → Path a [] [] a
+  pub data Route : o .Source → List (m .Step) → List (m .Entry) → o .Source → Type 0 where
+    stay : {a : o .Source} → Route a [] [] a
     move : {a b c : o .Source} {x : m .Step} {xs : List (m .Step)} {es fs : List (m .Entry)}
-        → o .Moves a (o .label x) b → o .Safe a (o .label x) → o .HandsOut a (o .label x) es → Path b xs fs c → Path a (x ∷ xs) (es ++ fs) c
+        → o .Moves a (o .label x) b → o .Safe a (o .label x) → o .HandsOut a (o .label x) es → Route b xs fs c → Route a (x ∷ xs) (es ++ fs) c
 
   -- the first disabled step of a schedule, with its index and the reason: the first line of the table that applies
   pub record StopsAt (s₀ : m .State) (xs : List (m .Step)) (k c : ℕ) : Type 0 where
@@ -91,7 +91,7 @@ module _ {m : Machine} (o : Sourced m) where
     pub state : r .state ≡ after m s₀ (take (r .place) xs)
     pub log : r .log ≡ entries m s₀ (take (r .place) xs)
     -- .. and these did what the source says
-    pub path : Path (o .abs s₀) (take (r .place) xs) (r .log) (o .abs (r .state))
+    pub route : Route (o .abs s₀) (take (r .place) xs) (r .log) (o .abs (r .state))
 
 -- the source's own proofs, over all of its states: its transitions keep its invariants, and under them take nothing for granted that is not so
 pub record Inductive {m : Machine} (o : Sourced m) (Inv : o .Source → Type 0) : Type 0 where

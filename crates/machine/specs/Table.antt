@@ -1,11 +1,13 @@
 -- Tables of small cases: what a row says, and when a machine answers as its rows do. Assumes nothing.
-use Prim.Native.Nat.{ℕ}
-use mathlib.Core.Bool.{Bool, true, false, not, _&&_, Bool·beq}
+use Prim.Native.Nat.{ℕ, zero, suc}
+use mathlib.Core.Bool.{Bool, true, false, cond, not, _&&_, Bool·beq}
 use mathlib.Core.List.{List, [], _∷_}
 use lib.Dec.{eqb}
+use lib.ListN.{length}
 use Rattle.rows.specs.Bytes.{alike}
 use Rattle.rows.specs.Walk.{every, pieces}
 use Rattle.machine.specs.Codes as code
+use Rattle.machine.specs.Check.{Check}
 use Rattle.machine.specs.Machine.{Machine}
 use Rattle.machine.specs.Replay.{Replayed, replay}
 
@@ -73,3 +75,45 @@ module _ (m : Machine) (sound : m .State → Bool) (imageBytes : m .State → Li
 
     abbrev pub noneStarted : List (Start P) → Bool
     noneStarted rs = every (λ i r. not (started r)) 0 rs
+
+-- ---------- a table leaves nothing out
+
+-- how many tests hold before the first that fails
+abbrev pub heldBefore : List Check → ℕ
+heldBefore [] = 0
+heldBefore (c ∷ cs) = cond (c .holds) (suc (heldBefore cs)) 0
+
+-- the test p of a row that is of one step
+abbrev pub onlyStep : {X : Type 0} → (X → Bool) → List X → Bool
+onlyStep p [] = false
+onlyStep p (x ∷ []) = p x
+onlyStep p (x ∷ (y ∷ ys)) = false
+
+-- f holds of each number below n
+abbrev pub everyBelow : ℕ → (ℕ → Bool) → Bool
+everyBelow zero f = true
+everyBelow (suc n) f = f n && everyBelow n f
+
+module _ (m : Machine) (tagOf : m .Step → ℕ) where
+  -- the row is of one step with this tag
+  abbrev tagged : ℕ → Case m → Bool
+  tagged t c = onlyStep (λ x. eqb (tagOf x) t) (c .steps)
+
+  -- and i of its tests hold before the first that fails; all of them where it is accepted
+  abbrev stopsAt : ℕ → ℕ → Case m → Bool
+  stopsAt t i c = onlyStep (λ x. eqb (tagOf x) t && eqb (heldBefore (m .tests (c .given) x)) i) (c .steps)
+
+  -- how many tests a row's step has
+  abbrev testsIn : m .State → List (m .Step) → ℕ
+  testsIn s [] = 0
+  testsIn s (x ∷ xs) = length (m .tests s x)
+
+  -- how many tests the steps with this tag have: as many as in the first row of the tag
+  abbrev tests# : ℕ → List (Case m) → ℕ
+  tests# t [] = 0
+  tests# t (c ∷ cs) = cond (tagged t c) (testsIn (c .given) (c .steps)) (tests# t cs)
+
+  -- the tags 1 to n each have a row that is accepted, and for each of their tests one that this test refuses
+  abbrev pub leavesNothingOut : ℕ → List (Case m) → Bool
+  leavesNothingOut n cs =
+      everyBelow n (λ k. everyBelow (suc (tests# (suc k) cs)) (λ i. not (every (λ j c. not (stopsAt (suc k) i c)) 0 cs)))

@@ -1,7 +1,7 @@
 // The number of each answer. specs/Codes.antt has the same numbers with what each means.
 pub const ACCEPTED: u8 = 0;
 
-pub const LENGTH: u8 = 1;
+pub const WRONG_LENGTH: u8 = 1;
 
 pub const VERSION: u8 = 2;
 

@@ -24,7 +24,7 @@ use Rattle.flat.specs.declared.state.Client.{Client}
 use Rattle.flat.specs.declared.state.Elem.{Elem}
 use Rattle.flat.specs.declared.state.State as flat
 use Rattle.lock.specs.Image.{cellBytes}
-use Rattle.raw.specs.Raw.{byteAt, rowFrom, countingFrom, countingBytes, cellAt, headBytes, lockFrom, lockBytes, flagFrom, flagBytes, clientAt, clientsFrom, clientBytes, elemAt, elemsFrom, elemBytes, combinerBytes, flatFrom, flatBytes}
+use Rattle.raw.specs.Raw.{clientLong, elemLong, elemsAt, combinerAt, byteAt, rowFrom, countingFrom, countingBytes, cellAt, headBytes, lockFrom, lockBytes, flagFrom, flagBytes, clientAt, clientsFrom, clientBytes, elemAt, elemsFrom, elemBytes, combinerBytes, flatFrom, flatBytes}
 use Rattle.raw.proofs.Writes.{clients-length, elems-length}
 
 -- ---------- numbers, bytes and flags in their place
@@ -183,19 +183,19 @@ module _ (s : flat.State) (long : length (s .clients) ≡ limit.clients) (wide :
 
   clients-back : clientsFrom (flatBytes s) ≡ s .clients
   clients-back =
-      row-whole clientBytes clientFits 16 clientAt (λ j. 16 * j) (λ c. refl) (λ j. omega arith) client-back (s .clients) limit.clients [] (elems ++ combinerBytes s) long refl fit
+      row-whole clientBytes clientFits clientLong clientAt (λ j. clientLong * j) (λ c. refl) (λ j. omega arith) client-back (s .clients) limit.clients [] (elems ++ combinerBytes s) long refl fit
 
   elems-back : elemsFrom (flatBytes s) ≡ s .elems
   elems-back =
       let place = sym (clients-length s long wide) in
-      row-whole elemBytes elemFits 5 elemAt (λ j. 16 * limit.clients + 5 * j) (λ e. refl) (λ j. omega arith) elem-back (s .elems) limit.clients clients (combinerBytes s) wide place fits
+      row-whole elemBytes elemFits elemLong elemAt (λ j. elemsAt + elemLong * j) (λ e. refl) (λ j. omega arith) elem-back (s .elems) limit.clients clients (combinerBytes s) wide place fits
 
   -- the combiner stands behind both rows
-  behind : (j : ℕ) → numberAt (flatBytes s) (21 * limit.clients + j) 1 ≡ numberAt (combinerBytes s) j 1
+  behind : (j : ℕ) → numberAt (flatBytes s) (combinerAt + j) 1 ≡ numberAt (combinerBytes s) j 1
   behind j =
-      let place : 21 * limit.clients ≡ length (clients ++ elems) =
+      let place : combinerAt ≡ length (clients ++ elems) =
       omega (arith, clients-length s long wide, elems-length s long wide, length-append clients elems) in
-      rw (append-assoc clients elems (combinerBytes s)) at (deeper (clients ++ elems) (combinerBytes s) (21 * limit.clients) j 1 place)
+      rw (append-assoc clients elems (combinerBytes s)) at (deeper (clients ++ elems) (combinerBytes s) (combinerAt) j 1 place)
 
   pub flat-back : flatFrom (flatBytes s) ≡ s
   flat-back =

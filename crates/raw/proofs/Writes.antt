@@ -23,7 +23,7 @@ use Rattle.flat.specs.declared.state.Client.{Client}
 use Rattle.flat.specs.declared.state.Elem.{Elem}
 use Rattle.flat.specs.declared.state.State as flat
 use Rattle.lock.specs.Image.{cellBytes}
-use Rattle.raw.specs.Raw.{flagsBytes, countingBytes, headBytes, lockBytes, flagBytes, clientBytes, elemBytes, combinerBytes, flatBytes, lockLong, flagLong, flatLong}
+use Rattle.raw.specs.Raw.{clientLong, elemLong, combinerLong, elemsAt, flagsBytes, countingBytes, headBytes, lockBytes, flagBytes, clientBytes, elemBytes, combinerBytes, flatBytes, lockLong, flagLong, flatLong}
 
 -- ---------- four writers, one behind the other, where all fit
 
@@ -127,7 +127,7 @@ module _ (s : flag.State) (long : length (s .places) ≡ limit.threads) where
 
 -- ---------- flat
 
-module _ (v : Client) (l : List ℕ) (at : ℕ) (fits : at + 16 ≤ length l) (a b c : ℕ) (k m n : List ℕ) (p : Laid l at (big 4 (v .rid)) a k)
+module _ (v : Client) (l : List ℕ) (at : ℕ) (fits : at + clientLong ≤ length l) (a b c : ℕ) (k m n : List ℕ) (p : Laid l at (big 4 (v .rid)) a k)
     (q : Laid k a (big 4 (v .req)) b m) (r : Laid m b (big 4 (v .resp)) c n) where
   abbrev flags : List ℕ
   flags = flagsBytes (v .waiting) (v .asked) (v .told) (v .slot)
@@ -138,7 +138,7 @@ module _ (v : Client) (l : List ℕ) (at : ℕ) (fits : at + 16 ≤ length l) (a
   pub client-laid : (d : ℕ) (o : List ℕ) → Laid n c flags d o → Laid l at (clientBytes v) d o
   client-laid = four-laid l at (big 4 (v .rid)) (big 4 (v .req)) (big 4 (v .resp)) flags fits a b c k m n p q r
 
-pub elem-laid : (e : Elem) (l : List ℕ) (at : ℕ) → at + 5 ≤ length l → (a b : ℕ) (k m : List ℕ) → Laid l at (big 4 (e .rid)) a k
+pub elem-laid : (e : Elem) (l : List ℕ) (at : ℕ) → at + elemLong ≤ length l → (a b : ℕ) (k m : List ℕ) → Laid l at (big 4 (e .rid)) a k
     → Laid k a (boolByte (e .present) ∷ []) b m → Laid l at (elemBytes e) b m
 elem-laid e l at h a b k m p q = laid-then l at (big 4 (e .rid)) (boolByte (e .present) ∷ []) a k b m h p q
 
@@ -154,13 +154,13 @@ module _ (s : flat.State) (long : length (s .clients) ≡ limit.clients) (wide :
   abbrev elems : List ℕ
   elems = pieces elemBytes (s .elems)
 
-  pub clients-length : length clients ≡ 16 * limit.clients
+  pub clients-length : length clients ≡ elemsAt
   clients-length = omega (arith, pieces-even clientBytes 16 (λ v. refl) (s .clients))
 
-  pub elems-length : length elems ≡ 5 * limit.clients
+  pub elems-length : length elems ≡ elemLong * limit.clients
   elems-length = omega (arith, pieces-even elemBytes 5 (λ v. refl) (s .elems))
 
-  behind-length : length (elems ++ combinerBytes s) ≡ 5 * limit.clients + 4
+  behind-length : length (elems ++ combinerBytes s) ≡ elemLong * limit.clients + combinerLong
   behind-length = omega (arith, elems-length, length-append elems (combinerBytes s))
 
   pub flat-length : length (flatBytes s) ≡ flatLong
@@ -171,13 +171,13 @@ module _ (s : flat.State) (long : length (s .clients) ≡ limit.clients) (wide :
     flat-short h = none-laid l 0 (flatBytes s) (omega (arith, flat-length))
 
     module _ (fits : flatLong ≤ length l) (a : ℕ) (k : List ℕ) (first : Laid l 0 clients a k) where
-      behind-room : a + 5 * limit.clients + 4 ≤ length k
+      behind-room : a + elemLong * limit.clients + combinerLong ≤ length k
       behind-room =
           let size = clients-length in
           let w = laid-whole l 0 clients a k (omega arith) first in
           omega (arith, laid-length l 0 clients a k first)
 
-      pub elems-room : a + 5 * limit.clients ≤ length k
+      pub elems-room : a + elemLong * limit.clients ≤ length k
       elems-room = omega (arith, behind-room)
 
       module _ (b : ℕ) (m : List ℕ) (second : Laid k a elems b m) where

@@ -92,8 +92,25 @@ flagBytes s = s .threads ∷ s .pending ∷ boolByte (s .value) ∷ s .places
 
 -- ---------- flat
 
+-- how many bytes a client, an element, and what the combiner has besides take
+abbrev pub clientLong : ℕ
+clientLong = 16
+
+abbrev pub elemLong : ℕ
+elemLong = 5
+
+abbrev pub combinerLong : ℕ
+combinerLong = 4
+
+-- the elements stand behind the clients, and the combiner behind both
+abbrev pub elemsAt : ℕ
+elemsAt = clientLong * limit.clients
+
+abbrev pub combinerAt : ℕ
+combinerAt = elemsAt + elemLong * limit.clients
+
 abbrev pub flatLong : ℕ
-flatLong = 21 * limit.clients + 4
+flatLong = combinerAt + combinerLong
 
 abbrev pub clientAt : List ℕ → ℕ → Client
 clientAt raw at =
@@ -108,18 +125,17 @@ clientAt raw at =
     }
 
 abbrev pub clientsFrom : List ℕ → List Client
-clientsFrom raw = rowFrom (λ i. clientAt raw (16 * i)) 0 limit.clients
+clientsFrom raw = rowFrom (λ i. clientAt raw (clientLong * i)) 0 limit.clients
 
 abbrev pub elemAt : List ℕ → ℕ → Elem
 elemAt raw at = record { rid = numberAt raw at 4; present = setAt raw (at + 4) }
 
--- the elements stand behind the clients, and the combiner behind both
 abbrev pub elemsFrom : List ℕ → List Elem
-elemsFrom raw = rowFrom (λ i. elemAt raw (16 * limit.clients + 5 * i)) 0 limit.clients
+elemsFrom raw = rowFrom (λ i. elemAt raw (elemsAt + elemLong * i)) 0 limit.clients
 
 abbrev pub flatFrom : List ℕ → flat.State
 flatFrom raw =
-    let at = 21 * limit.clients in
+    let at = combinerAt in
     record {
       clients = clientsFrom raw;
       elems = elemsFrom raw;

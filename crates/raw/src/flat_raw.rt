@@ -10,17 +10,20 @@ ghost use lib.ListN.{length};
 ghost use Rattle.rows.specs.Stores.{Laid};
 ghost use Rattle.rows.specs.Walk.{pieces};
 ghost use Rattle.schedule.specs.Limits as limit;
-ghost use Rattle.raw.specs.Raw.{clientAt, clientsFrom, elemAt, elemsFrom, flatFrom, clientBytes, elemBytes, combinerBytes, flatBytes};
+ghost use Rattle.raw.specs.Raw.{clientLong, elemLong, combinerLong, elemsAt, combinerAt, clientAt, clientsFrom, elemAt, elemsFrom, flatFrom, clientBytes, elemBytes, combinerBytes, flatBytes};
 
+// How many bytes a client, an element, and what the combiner has besides take.
 pub const CLIENT: usize = 16;
 
 pub const ELEM: usize = 5;
+
+const REST: usize = 4;
 
 pub const ELEMS: usize = CLIENT * limits::CLIENTS;
 
 pub const COMBINER: usize = ELEMS + ELEM * limits::CLIENTS;
 
-pub const LENGTH: usize = COMBINER + 4;
+pub const LENGTH: usize = COMBINER + REST;
 
 pub fn flat_from(raw: &[u8]) -> State
     ensures { λ r. ⌜ r ≡ flatFrom (now (raw .entry)) ⌝ }
@@ -60,7 +63,7 @@ fn clients_from(raw: &[u8]) -> [Client; limits::CLIENTS]
 }
 
 fn client_at(raw: &[u8], at: usize) -> Client
-    requires { ⌜ at ≤ 16 * limit.clients ⌝ }
+    requires { ⌜ at ≤ elemsAt ⌝ }
     ensures { λ r. ⌜ r ≡ clientAt (now (raw .entry)) at ⌝ }
 {
     Client {
@@ -92,7 +95,7 @@ fn elems_from(raw: &[u8]) -> [Elem; limits::CLIENTS]
 }
 
 fn elem_at(raw: &[u8], at: usize) -> Elem
-    requires { ⌜ at ≤ 21 * limit.clients ⌝ }
+    requires { ⌜ at ≤ combinerAt ⌝ }
     ensures { λ r. ⌜ r ≡ elemAt (now (raw .entry)) at ⌝ }
 {
     Elem {
@@ -115,7 +118,7 @@ pub fn put_flat(raw: &mut [u8], s: State) -> usize
 }
 
 fn put_combiner(raw: &mut [u8], at: usize, s: State) -> usize
-    requires { ⌜ at + 4 ≤ length (now raw) ⌝ }
+    requires { ⌜ at + combinerLong ≤ length (now raw) ⌝ }
     ensures { λ r. ⌜ Laid (now (raw .entry)) at (combinerBytes s) r (now (raw .exit)) ⌝ }
 {
     let a = rows::put1(raw, at, s.count);
@@ -125,7 +128,7 @@ fn put_combiner(raw: &mut [u8], at: usize, s: State) -> usize
 }
 
 fn put_clients(raw: &mut [u8], clients: [Client; limits::CLIENTS]) -> usize
-    requires { ⌜ 16 * limit.clients ≤ length (now raw) ⌝ }
+    requires { ⌜ elemsAt ≤ length (now raw) ⌝ }
     ensures { λ r. ⌜ Laid (now (raw .entry)) 0 (pieces clientBytes clients) r (now (raw .exit)) ⌝ }
 {
     let mut i: usize = 0;
@@ -139,7 +142,7 @@ fn put_clients(raw: &mut [u8], clients: [Client; limits::CLIENTS]) -> usize
 }
 
 fn put_client(raw: &mut [u8], at: usize, c: Client) -> usize
-    requires { ⌜ at + 16 ≤ length (now raw) ⌝ }
+    requires { ⌜ at + clientLong ≤ length (now raw) ⌝ }
     ensures { λ r. ⌜ Laid (now (raw .entry)) at (clientBytes c) r (now (raw .exit)) ⌝ }
 {
     let a = rows::put4(raw, at, c.rid);
@@ -149,7 +152,7 @@ fn put_client(raw: &mut [u8], at: usize, c: Client) -> usize
 }
 
 fn put_elems(raw: &mut [u8], at: usize, elems: [Elem; limits::CLIENTS]) -> usize
-    requires { ⌜ at + 5 * limit.clients ≤ length (now raw) ⌝ }
+    requires { ⌜ at + elemLong * limit.clients ≤ length (now raw) ⌝ }
     ensures { λ r. ⌜ Laid (now (raw .entry)) at (pieces elemBytes elems) r (now (raw .exit)) ⌝ }
 {
     let mut i: usize = 0;
@@ -163,7 +166,7 @@ fn put_elems(raw: &mut [u8], at: usize, elems: [Elem; limits::CLIENTS]) -> usize
 }
 
 fn put_elem(raw: &mut [u8], at: usize, e: Elem) -> usize
-    requires { ⌜ at + 5 ≤ length (now raw) ⌝ }
+    requires { ⌜ at + elemLong ≤ length (now raw) ⌝ }
     ensures { λ r. ⌜ Laid (now (raw .entry)) at (elemBytes e) r (now (raw .exit)) ⌝ }
 {
     let a = rows::put4(raw, at, e.rid);

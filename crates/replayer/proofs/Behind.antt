@@ -15,10 +15,10 @@ use Rattle.schedule.specs.Language.{Language, stepAt}
 use Rattle.schedule.specs.Spelling as spelled
 use Rattle.schedule.specs.Widths as kind
 use Rattle.schedule.specs.Reading.{Placed, broken, surplus, placed, placesFrom}
-use Rattle.schedule.specs.Front.{faultCode, faultPlace, openedOf}
+use Rattle.schedule.specs.Front.{openedOf}
 use Rattle.schedule.specs.Given.{Ready, flatReady, lockReady, countingReady, flagReady}
-use Rattle.schedule.specs.Schedule.{Schedule, ofFlat, ofLock, ofCounting, ofFlag, good, withSteps, behindFront, decode}
-use Rattle.schedule.specs.Answers.{refusedAs, Leaves, restPlaced, restFrom}
+use Rattle.schedule.specs.Schedule.{Schedule, ofFlat, ofLock, ofCounting, ofFlag, good, withSteps, behindFront, decode, paramsIn}
+use Rattle.schedule.specs.Answers.{refusedAs, refusedFor, Leaves, restPlaced, restFrom}
 use Rattle.schedule.specs.declared.answer.Answer.{Answer}
 use Rattle.schedule.specs.declared.steps.Params.{Params}
 use Rattle.schedule.specs.declared.steps.Params.the-variants.{Flat, Lock, Counting, Flag}
@@ -43,27 +43,18 @@ use Rattle.replayer.specs.Replay.{replayed, answered, replayOf, inputOf,
 
 -- ---------- parameters that passed the front are in their limits
 
-abbrev pub Allowed : Params → Type 0
-Allowed p = kindOf p .Within
+ready-within : (f : List ℕ) (from : ℕ) (r : Ready f from) → kindOf (paramsOf f r) .Within
+ready-within f from (flatReady k l n) = n
+ready-within f from (lockReady k l m n) = (m, n)
+ready-within f from (countingReady k) = tt
+ready-within f from (flagReady k l m n v) = (m, n)
 
-ready-allowed : (f : List ℕ) (from : ℕ) (r : Ready f from) → Allowed (paramsOf f r)
-ready-allowed f from (flatReady k l n) = n
-ready-allowed f from (lockReady k l m n) = (m, n)
-ready-allowed f from (countingReady k) = tt
-ready-allowed f from (flagReady k l m n v) = (m, n)
-
-pub opened-allowed : (f : List ℕ) (p : Params) (from : ℕ) → openedOf f ≡ Open p from → Allowed p
-opened-allowed f p from e =
+pub opened-within : (f : List ℕ) (p : Params) (from : ℕ) → openedOf f ≡ Open p from → kindOf p .Within
+opened-within f p from e =
     let s : Passed f p from = rw e at (front-says f) in
-    rw (s .params) (ready-allowed f from (s .ready))
+    rw (s .params) (ready-within f from (s .ready))
 
 -- and so are those of a schedule that was decoded
-abbrev pub paramsIn : Schedule → Params
-paramsIn (ofFlat n xs) = Flat n
-paramsIn (ofLock w t xs) = Lock w t
-paramsIn (ofCounting xs) = Counting
-paramsIn (ofFlag n v xs) = Flag n v
-
 steps-params : {S : Type 0} (l : Language S) (f : List ℕ) (make : List S → Schedule) (p : Placed) (s : Schedule) → withSteps l f make p ≡ good s
     → (xs : List S) × (s ≡ make xs)
 steps-params l f make (broken k) s e = clash (cc)
@@ -77,9 +68,9 @@ behind-params f (Open (Lock w t) at) s e = (at, rw (steps-params spelled.lock f 
 behind-params f (Open Counting at) s e = (at, rw (steps-params spelled.counting f ofCounting (placesFrom kind.counting limit.steps f at 0) s e .1))
 behind-params f (Open (Flag n v) at) s e = (at, rw (steps-params spelled.flag f (ofFlag n v) (placesFrom kind.flag limit.steps f at 0) s e .1))
 
-pub decoded-allowed : (f : List ℕ) (s : Schedule) → decode f ≡ good s → Allowed (paramsIn s)
+pub decoded-within : (f : List ℕ) (s : Schedule) → decode f ≡ good s → kindOf (paramsIn s) .Within
 unfolding decode
-decoded-allowed f s e = let o = behind-params f (openedOf f) s e in opened-allowed f (paramsIn s) (o .0) (o .1)
+decoded-within f s e = let o = behind-params f (openedOf f) s e in opened-within f (paramsIn s) (o .0) (o .1)
 
 -- ---------- they make a fresh machine
 
@@ -106,7 +97,7 @@ module _ (m : Machine) (l : Language (m .Step)) (bytes : m .Entry → List ℕ) 
   rest-answered from = placed-answered (placesFrom (l .kind) limit.steps f from 0)
 
 module _ (f log image : List ℕ) where
-  opened-answered : (p : Params) (from : ℕ) → Allowed p → openedAs f p from log image ≡ answered (behindFront f (Open p from)) log image
+  opened-answered : (p : Params) (from : ℕ) → kindOf p .Within → openedAs f p from log image ≡ answered (behindFront f (Open p from)) log image
   opened-answered (Flat n) from a =
       rw (flat-made n a) (rest-answered flat.flat spelled.flat flatBytes.entryBytes flatBytes.imageBytes (flat.freshState n) (ofFlat n) f log image (λ xs. refl) from)
   opened-answered (Lock w t) from a =
@@ -121,17 +112,17 @@ module _ (f log image : List ℕ) where
   -- ---------- the ways out of `replay`
 
   module _ (o : Opened) (q : o ≡ openedOf f) where
-    pub faulty-answered : (x : Fault) → o ≡ Faulty x → (a : ℕ) → a ≡ faultCode x → (b : ℕ) → b ≡ faultPlace x → (r : Answer) → r ≡ refusedAs a b
+    pub faulty-answered : (x : Fault) → o ≡ Faulty x → (r : Answer) → r ≡ refusedFor x
         → Leaves (replayOf f log image) r log image
     unfolding replayOf decode
-    faulty-answered x e a pa b pb r p = rw (← q, e) (record { answer = p ∙ rw (pa, pb); log = refl; image = refl })
+    faulty-answered x e r p = rw (← q, e) (record { answer = p; log = refl; image = refl })
 
     pub open-answered : (p : Params) (from : ℕ) → o ≡ Open p from → (r : Answer) (log′ image′ : List ℕ) → Leaves (openedAs f p from log image) r log′ image′
         → Leaves (replayOf f log image) r log′ image′
     unfolding replayOf decode
     open-answered p from e r log′ image′ d =
         let w : openedOf f ≡ Open p from = sym q ∙ e in
-        rw (w, ← opened-answered p from (opened-allowed f p from w)) d
+        rw (w, ← opened-answered p from (opened-within f p from w)) d
 
 -- ---------- the ways out of `behind_front`: the kind is known
 

@@ -3,14 +3,14 @@ use mathlib.Core.Path.{_≡_, refl, _∙_}
 use mathlib.Core.List.{List}
 use Prim.Native.Nat.{ℕ}
 use Rattle.schedule.specs.Running.{runSteps}
-use Rattle.schedule.specs.Schedule.{ofFlat, ofLock, ofCounting, ofFlag, Decoded, faulty, good, decode}
+use Rattle.schedule.specs.Schedule.{ofFlat, ofLock, ofCounting, ofFlag, Decoded, faulty, good, decode, paramsIn}
 use Rattle.schedule.specs.declared.front.Fault.{Fault}
 use Rattle.schedule.specs.declared.steps.Params.{Params}
 use Rattle.schedule.specs.declared.steps.Params.the-variants.{Flat, Lock, Counting, Flag}
 use Rattle.replayer.specs.Replay.{replayed, answered, replayOf}
 use Rattle.replayer.specs.Kinds.{kindOf, Steps}
 use Rattle.replayer.specs.Demands.{Says}
-use Rattle.replayer.proofs.Behind.{paramsIn, decoded-allowed}
+use Rattle.replayer.proofs.Behind.{decoded-within}
 
 -- the cases of what is decoded: a fault, or steps of some kind
 pub by-decoded : (P : Decoded → Type 0) → ((x : Fault) → P (faulty x)) → ((p : Params) (xs : Steps p) → P (good (kindOf p .schedule xs))) → (d : Decoded) → P d
@@ -33,7 +33,7 @@ params-as Counting xs = refl
 params-as (Flag n v) xs = refl
 
 pub within : (f : List ℕ) (p : Params) (xs : Steps p) → Says f p xs → kindOf p .Within
-within f p xs e = rw (params-as p xs) at (decoded-allowed f (kindOf p .schedule xs) e)
+within f p xs e = rw (params-as p xs) at (decoded-within f (kindOf p .schedule xs) e)
 
 module _ (f log image : List ℕ) where
   pub decoded : (d : Decoded) → decode f ≡ d → replayOf f log image ≡ answered d log image

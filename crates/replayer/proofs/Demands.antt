@@ -63,7 +63,7 @@ reads f = record { given = faults-given f; again = λ s b e. (written-again f s 
 module _ (log image : List ℕ) where
   -- each fault has one of the codes 1 to 7
   fault-keeps : (x : Fault) → Keeps log image (untouched (faultCode x) (faultPlace x) log image)
-  fault-keeps Length = untouched-keeps code.length 0 log image (omega arith) (omega arith)
+  fault-keeps Length = untouched-keeps code.wrongLength 0 log image (omega arith) (omega arith)
   fault-keeps Version = untouched-keeps code.version 0 log image (omega arith) (omega arith)
   fault-keeps Body = untouched-keeps code.body 0 log image (omega arith) (omega arith)
   fault-keeps Kind = untouched-keeps code.kind 0 log image (omega arith) (omega arith)

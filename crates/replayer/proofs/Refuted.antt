@@ -106,7 +106,7 @@ pub no-false-reader : (D : Reader) → ((f : List ℕ) → Reads D f) → NoFals
 no-false-reader D h =
     record {
       empty = λ n.
-          let x : D noSteps ≡ good (ofCounting []) = n noSteps (reads noSteps .given .none (ofFlat 1 []) noSteps-read) in
+          let x : D noSteps ≡ good (ofCounting []) = n noSteps 0 (reads noSteps .given .good-formed (ofFlat 1 []) noSteps-read) in
           let y : D noSteps ≡ good (ofFlat 1 []) = reading-settles D h noSteps noSteps-bytes ∙ noSteps-read in
           clash (cc);
       apart = λ f g s b c p q. sym (h f .again s b p .0) ∙ h g .again s c q .0;

@@ -2,15 +2,11 @@
 use mathlib.Core.Path.{_≡_, refl, sym, ap, _∙_}
 use mathlib.Core.List.{List}
 use Prim.Native.Nat.{ℕ}
-use borrow.Author.Tests.{eqb-true, eqb-false}
-use lib.Dec.{eqb}
-use lib.ListN.{length, take}
+use lib.ListN.{length}
 use Rattle.rows.specs.Bytes.{Bytes}
-use Rattle.rows.proofs.Cases.{on}
-use Rattle.machine.specs.Machine.{Machine}
-use Rattle.machine.specs.Replay.{Replayed, after, entries}
+use Rattle.machine.specs.Replay.{Replayed}
 use Rattle.machine.specs.Rest.{Rested, finished}
-use Rattle.machine.specs.Sourced.{Sourced, Exact}
+use Rattle.machine.proofs.Sourceds.{one-exact}
 use Rattle.schedule.specs.Schedule.{Decoded, faulty, good, decode, encode, InLimits}
 use Rattle.schedule.specs.Given.{Reader}
 use Rattle.schedule.specs.declared.front.Fault.{Fault}
@@ -51,25 +47,7 @@ pub says-written : (f : List ℕ) (p : Params) (xs : Steps p) → Bytes f → le
     (Says f p xs → (encode s ≡ f) × InLimits s) × ((encode s ≡ f) × InLimits s → Says f p xs)
 says-written f p xs bytes = let s = kindOf p .schedule xs in (held.reads f .again s bytes, λ w. rw (w .0) at (held.reads f .back s (w .1)))
 
--- ---------- one answer goes exactly by the source
-
-module _ {m : Machine} (o : Sourced m) (s : m .State) (xs : List (m .Step)) (r q : Replayed m) (e : Exact o s xs r) (d : Exact o s xs q) where
-  -- where all is enabled both end, and else both stop at the first disabled step
-  same-end : (r .place ≡ q .place) × (r .code ≡ q .code)
-  same-end = on (eqb (q .code) 0)
-      (λ b. let z = eqb-true (q .code) 0 b in let a = d .all-enabled z in
-      let x = e .accepts a in let y = d .accepts a in
-      (x .1 ∙ sym (y .1), x .0 ∙ sym (y .0)))
-      (λ b. e .refuses (q .place) (q .code) (d .stops (eqb-false (q .code) 0 b)))
-
-  same-state : r .state ≡ q .state
-  same-state = e .state ∙ ap (λ (n : ℕ). after m s (take n xs)) (same-end .0) ∙ sym (d .state)
-
-  same-log : r .log ≡ q .log
-  same-log = e .log ∙ ap (λ (n : ℕ). entries m s (take n xs)) (same-end .0) ∙ sym (d .log)
-
-  pub one-exact : r ≡ q
-  one-exact = λ i. record { code = same-end .1 i; place = same-end .0 i; log = same-log i; state = same-state i }
+-- ---------- one answer to a file
 
 pub one-replay : (k : kinds.Kind) (xs : List (StepOf k)) (log image : List ℕ) (a b : Rested) → Replays k xs log image a → Replays k xs log image b → a ≡ b
 one-replay k xs log image a b x y =

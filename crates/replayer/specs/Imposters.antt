@@ -1,10 +1,11 @@
 -- Replayers and readers that would please without telling the truth. No such replayer meets demands 1 and 2, no such reader `Reads`: proofs/Refuted.antt. Assumes nothing.
 use mathlib.Core.Path.{_≡_}
 use mathlib.Core.List.{List, _∷_, []}
-use Prim.Native.Nat.{ℕ}
+use Prim.Native.Nat.{ℕ, _*_, _-_}
 use lib.ListN.{replicate}
 use Rattle.machine.specs.Rest.{Rested}
 use Rattle.rows.specs.Bytes.{Bytes}
+use Rattle.schedule.specs.Limits as limit
 use Rattle.schedule.specs.Schedule.{Schedule, ofCounting, good}
 use Rattle.schedule.specs.Given.{Reader, WellFormed}
 use Rattle.replayer.specs.Demands.{Replayer}
@@ -20,7 +21,7 @@ noSteps = 1 ∷ 0 ∷ 2 ∷ 1 ∷ 1 ∷ []
 
 -- with buffers that are large enough
 abbrev pub on : Replayer → List ℕ → Rested
-on r f = r f (replicate 50 0) (replicate 512 0)
+on r f = r f (replicate (5 * limit.entry) 0) (replicate limit.image 0)
 
 pub record NoImposter (r : Replayer) : Type 0 where
   -- it refuses everything; it accepts everything; its code is a constant
@@ -36,9 +37,9 @@ pub record NoImposter (r : Replayer) : Type 0 where
   pub index-is-the-steps : on r (p05 .file) .place ≡ 1
   -- its log is empty, or made up: P3 logs its one answer, and nothing else
   pub empty-log : ((f log image : List ℕ) → r f log image .logged ≡ 0) → ⊥
-  pub log-is-the-answer : on r (p03 .file) .log ≡ 9 ∷ 0 ∷ 0 ∷ 0 ∷ 0 ∷ 7 ∷ 0 ∷ 0 ∷ 0 ∷ 99 ∷ replicate 40 0
+  pub log-is-the-answer : on r (p03 .file) .log ≡ 9 ∷ 0 ∷ 0 ∷ 0 ∷ 0 ∷ 7 ∷ 0 ∷ 0 ∷ 0 ∷ 99 ∷ replicate (5 * limit.entry - 10) 0
 
 -- a reader finds an empty schedule in every sound file; or the same in two
 pub record NoFalseReader (D : Reader) : Type 0 where
-  pub empty : ((f : List ℕ) → WellFormed f → D f ≡ good (ofCounting [])) → ⊥
+  pub empty : ((f : List ℕ) (n : ℕ) → WellFormed f n → D f ≡ good (ofCounting [])) → ⊥
   pub apart : (f g : List ℕ) (s : Schedule) → Bytes f → Bytes g → D f ≡ good s → D g ≡ good s → f ≡ g

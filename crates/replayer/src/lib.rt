@@ -17,7 +17,7 @@ pub fn replay(file: &[u8], log: &mut [u8], image: &mut [u8]) -> Answer
     ensures { λ r. ⌜ Leaves (replayOf (now (file .entry)) (now (log .entry)) (now (image .entry))) r (now (log .exit)) (now (image .exit)) ⌝ }
 {
     match front::front(file) {
-        Opened::Faulty(f) => answer::refused(front::code(f), front::place(f)),
+        Opened::Faulty(f) => answer::of_fault(f),
         Opened::Open { params, from } => behind_front(file, params, from, log, image),
     }
 }

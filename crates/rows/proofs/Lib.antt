@@ -5,6 +5,7 @@ pub mod Bytes
 pub mod Stores
 pub mod Walks
 pub mod Masks
+pub mod Tells
 pub mod Tables
 pub mod Settled
 pub mod Testing

@@ -10,7 +10,7 @@ use Rattle.rows.proofs.Cases.{clash}
 use Rattle.schedule.specs.Language.{Language, stepAt, stepLength, stepBytes}
 use Rattle.schedule.specs.Reading.{Placed, broken, surplus, placed, placesFrom}
 use Rattle.schedule.specs.Schedule.{Schedule, good, withSteps, stepsBytes, StepsFit}
-use Rattle.schedule.specs.Given.{Whole#, none, more}
+use Rattle.schedule.specs.Given.{Whole#, no-more, more}
 use Rattle.schedule.proofs.PlacesSay.{placesOf, length-placesOf, PlacesSay, places-say, whole-placed}
 use Rattle.schedule.proofs.Languages.{Lawful, sized}
 use Rattle.schedule.proofs.OneStep.{length-stepBytes, step-next, step-read, step-stands, step-fits, step-again}
@@ -51,7 +51,7 @@ module _ {S : Type 0} (l : Language S) (law : Lawful l) where
     -- ---- steps that were written are read
 
     written : (xs : List S) (at : ℕ) → StepsFit l xs → drop at f ≡ stepsBytes l xs → Written l f at xs
-    written [] at fit e = record { to = at; whole = none; over = nothing-left f at e; same = refl }
+    written [] at fit e = record { to = at; whole = no-more; over = nothing-left f at e; same = refl }
     written (x ∷ xs) at fit e =
         let rest = stepsBytes l xs in
         let g = written xs (at + 1 + stepLength l x) (fit .1) (step-next l law f at x rest (fit .0) e) in
@@ -72,11 +72,11 @@ module _ {S : Type 0} (l : Language S) (law : Lawful l) where
 
     module _ (bytes : Bytes f) where
       steps-fit : {at k to : ℕ} (w : Whole# (l .kind) f at k to) → StepsFit l (stepsOf l f w)
-      steps-fit none = tt
+      steps-fit no-more = tt
       steps-fit (more {at} {next} s w) = (step-fits l law f at next s bytes, steps-fit w)
 
       steps-again : {at k to : ℕ} (w : Whole# (l .kind) f at k to) → stepsBytes l (stepsOf l f w) ++ drop to f ≡ drop at f
-      steps-again none = refl
+      steps-again no-more = refl
       steps-again {to = to} (more {at} {next} s w) =
           append-assoc (stepBytes l (stepAt l f at)) (stepsBytes l (stepsOf l f w)) (drop to f)
           ∙ rw (steps-again w) (step-again l law f at next s bytes)

@@ -14,25 +14,13 @@ use Rattle.rows.proofs.Cases.{on}
 use Rattle.schedule.specs.Limits as limit
 use Rattle.schedule.specs.Widths as kind
 use Rattle.schedule.specs.Front.{openedOf}
+use Rattle.schedule.specs.Schedule.{frontBytes, Allowed}
 use Rattle.schedule.specs.Given.{Framed, Ready, flatReady, lockReady, countingReady, flagReady}
 use Rattle.schedule.specs.declared.steps.Params.{Params}
 use Rattle.schedule.specs.declared.steps.Params.the-variants.{Flat, Lock, Counting, Flag}
 use Rattle.schedule.specs.declared.front.Opened.the-variants.{Open}
 use Rattle.schedule.proofs.FrontSays.{paramsOf, Passed, ready-opened}
 use Rattle.schedule.proofs.Numbers.{left-number, number-fits, number-again}
-
--- a kind's byte and its parameters, as a body begins
-abbrev pub frontBytes : Params → List ℕ
-frontBytes (Flat n) = kind.flat ∷ n ∷ []
-frontBytes (Lock n t) = kind.lock ∷ n ∷ big 4 t
-frontBytes Counting = kind.counting ∷ []
-frontBytes (Flag n v) = kind.flag ∷ n ∷ boolByte v ∷ []
-
-abbrev pub Allowed : Params → Type 0
-Allowed (Flat n) = n ≤ limit.clients
-Allowed (Lock n t) = (1 ≤ n) × (n ≤ limit.width) × (t < 256 ^ 4)
-Allowed Counting = Unit {0}
-Allowed (Flag n v) = (1 ≤ n) × (n ≤ limit.threads)
 
 -- the file of a body
 abbrev pub fileOf : List ℕ → List ℕ

@@ -12,7 +12,7 @@ use Rattle.schedule.specs.Language.{Language, stepAt, sizeOf}
 use Rattle.schedule.specs.Spelling.{flat, lock, counting, flag}
 use Rattle.schedule.specs.Reading.{measuredAt, Placed, broken, surplus, placed, placesFrom}
 use Rattle.schedule.specs.Counting.{counted, countedOf}
-use Rattle.schedule.specs.Given.{Whole#, none, more}
+use Rattle.schedule.specs.Given.{Whole#, no-more, more}
 use Rattle.schedule.specs.declared.lengths.Measured.the-variants.{Whole}
 use Rattle.schedule.specs.declared.count.Counted.the-variants.{Steps}
 use Rattle.schedule.proofs.MeasureSays.{whole-stands, stands-inside}
@@ -39,14 +39,14 @@ module _ {S : Type 0} (l : Language S) (law : Lawful l) (f : List ℕ) where
 
   whole-formed : {at k to : ℕ} → Whole# (l .kind) f at k to → Formed (stepAt l) (sizeOf l) f at k
   unfolding Formed
-  whole-formed none = tt
+  whole-formed no-more = tt
   whole-formed (more {at} {next} s w) =
       let e = step-ends l law f at next s in
       (rw e at (stands-inside (l .kind) f at next s), rw e at (whole-formed w))
 
   whole-steps : {at k to : ℕ} (w : Whole# (l .kind) f at k to) → stepsFrom (stepAt l) (sizeOf l) f at k ≡ stepsOf l f w
   unfolding stepsFrom
-  whole-steps none = refl
+  whole-steps no-more = refl
   whole-steps (more {at} {next} s w) = rw (← step-ends l law f at next s, whole-steps w)
 
   placed-bridged : (n at : ℕ) (ps : List ℕ) → PlacedAt (l .kind) f n at ps → Bridged l f at ps

@@ -35,7 +35,7 @@ module _ (kind : ℕ) (f : List ℕ) (at : ℕ) where
       (λ z. by-test MeasureSays (ltb (length f) (at + 1 + getD f at 0)) _ _ (λ p. (inside, inr (inl (ltb-true (length f) (at + 1 + getD f at 0) p))))
       (λ p. by-test MeasureSays (eqb (lengthOf kind (getD f (at + 1) 0)) (getD f at 0)) _ _
       (λ o. record {
-        some = eqb-false (getD f at 0) 0 z;
+        nonzero = eqb-false (getD f at 0) 0 z;
         fits = ltb-false (length f) (at + 1 + getD f at 0) p;
         own = eqb-true (lengthOf kind (getD f (at + 1) 0)) (getD f at 0) o;
         ends = refl;
@@ -54,10 +54,10 @@ module _ (kind : ℕ) (f : List ℕ) (at : ℕ) where
   pub stands-measured : (next : ℕ) → Stands kind f at next → measuredAt kind f at ≡ Whole next
   stands-measured next s =
       let inside : at < length f = omega (arith, s .fits) in
-      rw (s .ends) (sym (at-whole kind f at inside (s .some) (omega (arith, s .fits)) _ refl (s .own)))
+      rw (s .ends) (sym (at-whole kind f at inside (s .nonzero) (omega (arith, s .fits)) _ refl (s .own)))
 
   stands-sound : (next : ℕ) → Stands kind f at next → Malformed kind f at → ⊥
-  stands-sound next s (inside, wrong) = ⊎-elim (s .some) (⊎-elim (λ p. omega (arith, s .fits)) (λ o. o (s .own))) wrong
+  stands-sound next s (inside, wrong) = ⊎-elim (s .nonzero) (⊎-elim (λ p. omega (arith, s .fits)) (λ o. o (s .own))) wrong
 
   only-broken : (m : Measured) → MeasureSays m → Malformed kind f at → m ≡ Broken
   only-broken End h w = absurd (omega (arith, w .0))

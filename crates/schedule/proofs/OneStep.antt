@@ -53,7 +53,7 @@ module _ {S : Type 0} (l : Language S) (law : Lawful l) where
         let size = length-stepBytes x w in
         let all = length-append (stepBytes l x) rest in
         let made = parts l law x in
-        record { some = λ z. omega arith; fits = omega arith; own = ap (lengthOf (l .kind)) tag-here ∙ sym first; ends = rw first }
+        record { nonzero = λ z. omega arith; fits = omega arith; own = ap (lengthOf (l .kind)) tag-here ∙ sym first; ends = rw first }
 
   -- ---- a step that was read is written
 
@@ -65,7 +65,7 @@ module _ {S : Type 0} (l : Language S) (law : Lawful l) where
     numbers = numbersAt f (at + 1 + 1) (numberWidths (l .kind) tag)
 
     kept : Kept l tag numbers
-    kept = law .kept tag numbers (omega (arith, s .some, s .own)) (length-numbersAt f (at + 1 + 1) (numberWidths (l .kind) tag))
+    kept = law .kept tag numbers (omega (arith, s .nonzero, s .own)) (length-numbersAt f (at + 1 + 1) (numberWidths (l .kind) tag))
 
     tag-is : l .tag (stepAt l f at) ≡ tag
     tag-is = rw (step-at f at) (kept .tag)

@@ -21,7 +21,7 @@ use Rattle.schedule.specs.Language.{Language, stepAt, sizeOf}
 use Rattle.schedule.specs.Reading.{Placed, broken, surplus, placed, placesFrom}
 use Rattle.schedule.specs.Counting.{counted, countedOf}
 use Rattle.schedule.specs.Front.{faultCode, faultPlace}
-use Rattle.schedule.specs.Answers.{refusedAs, Leaves, restPlaced, restFrom}
+use Rattle.schedule.specs.Answers.{refusedAs, refusedFor, Leaves, restPlaced, restFrom}
 use Rattle.schedule.specs.declared.answer.Answer.{Answer}
 use Rattle.schedule.specs.declared.front.Fault.{Fault}
 use Rattle.schedule.specs.declared.front.Fault.the-variants.{Step, Surplus}
@@ -53,7 +53,7 @@ module _ (m : Machine) (l : Language (m .Step)) (bytes : m .Entry → List ℕ) 
   by-fault (placed ps) x e = clash (cc)
 
   -- a fault among the steps is answered, and nothing is written
-  pub faulty-leaves : (x : Fault) → countedOf (l .kind) f from ≡ Faulty x → (r : Answer) → r ≡ refusedAs (faultCode x) (faultPlace x) → Leaves rest r log image
+  pub faulty-leaves : (x : Fault) → countedOf (l .kind) f from ≡ Faulty x → (r : Answer) → r ≡ refusedFor x → Leaves rest r log image
   unfolding restFrom countedOf
   faulty-leaves x e r p = untouches (by-fault (placesFrom (l .kind) limit.steps f from 0) x e) r p
 

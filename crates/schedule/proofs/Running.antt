@@ -19,9 +19,8 @@ use Rattle.machine.proofs.Loops.{Going, begins, going-end, going-next, going-mo
 use Rattle.machine.proofs.Fair.{Fair}
 use Rattle.schedule.specs.Limits as limit
 use Rattle.schedule.specs.Language.{stepAt, sizeOf}
-use Rattle.schedule.specs.Front.{faultCode, faultPlace}
 use Rattle.schedule.specs.Counting.{countedOf}
-use Rattle.schedule.specs.Answers.{refusedAs, Leaves}
+use Rattle.schedule.specs.Answers.{refusedAs, refusedFor, Leaves}
 use Rattle.schedule.specs.Running.{Counts, Runner, Runnable, Ended, restRun, restMade}
 use Rattle.schedule.specs.declared.answer.Answer.{Answer}
 use Rattle.schedule.specs.declared.front.Fault.{Fault}
@@ -141,10 +140,9 @@ module _ (p : Runner) (o : Carries p) (s : p .machine .State) (f : List ℕ) (fr
   abbrev Rests : Answer → List ℕ → List ℕ → Type 0
   Rests r log′ image′ = Leaves (restRun p s f from log image) r log′ image′
 
-  pub faulty-leaves : (c : Counted) → c ≡ countedOf (p .language .kind) f from → (x : Fault) → c ≡ Faulty x → (a : ℕ) → a ≡ faultCode x
-      → (b : ℕ) → b ≡ faultPlace x → (r : Answer) → r ≡ refusedAs a b → Rests r log image
-  faulty-leaves c q x e a pa b pb r w =
-      rests.faulty-leaves (p .machine) (p .language) (p .bytes) (p .image) s f from log image x (sym q ∙ e) r (w ∙ rw (pa, pb))
+  pub faulty-leaves : (c : Counted) → c ≡ countedOf (p .language .kind) f from → (x : Fault) → c ≡ Faulty x → (r : Answer)
+      → r ≡ refusedFor x → Rests r log image
+  faulty-leaves c q x e = rests.faulty-leaves (p .machine) (p .language) (p .bytes) (p .image) s f from log image x (sym q ∙ e)
 
   module _ (n : ℕ) (c : Counts (p .language .kind) f from n) where
     pub runnable : p .Good s → n * limit.entry ≤ length log → Runnable p f from n s 0 (length log)

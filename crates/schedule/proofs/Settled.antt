@@ -7,14 +7,14 @@ use lib.ListN.{length}
 use lib.Seq.{ext-getD}
 use Rattle.rows.proofs.Settled.{settled}
 use Rattle.machine.specs.Rest.{Rested}
-use Rattle.schedule.specs.Widths.{lengthOf, RowOf}
+use Rattle.schedule.specs.Widths.{lengthOf, RowOf, tags}
 use Rattle.schedule.specs.Language.{stepAt}
 use Rattle.schedule.specs.Spelling.{flat, lock, counting, flag}
 use Rattle.schedule.specs.Reading.{measuredAt}
 use Rattle.schedule.specs.Front.{faultCode, faultPlace, openedOf}
 use Rattle.schedule.specs.Counting.{countedOf}
 use Rattle.schedule.specs.Finding.{foundAt}
-use Rattle.schedule.specs.Answers.{refusedAs, Leaves}
+use Rattle.schedule.specs.Answers.{refusedAs, refusedFor, Leaves}
 use Rattle.schedule.specs.declared.steps.FlatStep.{FlatStep}
 use Rattle.schedule.specs.declared.steps.LockStep.{LockStep}
 use Rattle.schedule.specs.declared.steps.CountingStep.{CountingStep}
@@ -42,8 +42,8 @@ front-settled f = settled
 pub length-of-settled : (kind tag : ℕ) {r q : ℕ} → r ≡ lengthOf kind tag → q ≡ lengthOf kind tag → r ≡ q
 length-of-settled kind tag = settled
 
--- rows of nine, as the answer's type says
-pub row-of-settled : (kind : ℕ) (r q : List ℕ) → length r ≡ 9 → length q ≡ 9 → RowOf kind r → RowOf kind q → r ≡ q
+-- rows with a length for each tag, as the answer's type says
+pub row-of-settled : (kind : ℕ) (r q : List ℕ) → length r ≡ tags → length q ≡ tags → RowOf kind r → RowOf kind q → r ≡ q
 row-of-settled kind r q a b x y = ext-getD 0 r q (a ∙ sym b) (λ i h. x .at i (omega (arith, h)) ∙ sym (y .at i (omega (arith, h))))
 
 pub measure-settled : (kind : ℕ) (f : List ℕ) (at : ℕ) {r q : Measured} → r ≡ measuredAt kind f at → q ≡ measuredAt kind f at → r ≡ q
@@ -69,3 +69,6 @@ read-settled kind f at = settled
 
 pub refused-settled : (code place : ℕ) {r q : Answer} → r ≡ refusedAs code place → q ≡ refusedAs code place → r ≡ q
 refused-settled code place = settled
+
+pub of-fault-settled : (x : Fault) {r q : Answer} → r ≡ refusedFor x → q ≡ refusedFor x → r ≡ q
+of-fault-settled x = settled

@@ -8,10 +8,15 @@ use Rattle.machine.specs.Codes as code
 use Rattle.schedule.specs.Limits as limit
 use Rattle.schedule.specs.Language.{Language, stepAt}
 use Rattle.schedule.specs.Reading.{Placed, broken, surplus, placed, placesFrom}
+use Rattle.schedule.specs.Front.{faultCode, faultPlace}
 use Rattle.schedule.specs.declared.answer.Answer.{Answer}
+use Rattle.schedule.specs.declared.front.Fault.{Fault}
 
 abbrev pub refusedAs : ℕ → ℕ → Answer
 refusedAs c place = record { place = place; logged = 0; imaged = 0; code = c }
+
+abbrev pub refusedFor : Fault → Answer
+refusedFor x = refusedAs (faultCode x) (faultPlace x)
 
 abbrev pub answerOf : Rested → Answer
 answerOf o = record { place = o .place; logged = o .logged; imaged = o .imaged; code = o .code }

@@ -16,7 +16,7 @@ use Rattle.schedule.specs.declared.front.Opened.the-variants.{Faulty, Op
 
 -- the scope's number and place of each fault
 abbrev pub faultCode : Fault → ℕ
-faultCode Length = code.length
+faultCode Length = code.wrongLength
 faultCode Version = code.version
 faultCode Body = code.body
 faultCode Kind = code.kind

@@ -8,18 +8,9 @@ use Rattle.rows.specs.Bytes.{numberAt}
 use Rattle.schedule.specs.Limits as limit
 use Rattle.schedule.specs.Widths as kind
 use Rattle.schedule.specs.Widths.{lengthOf}
-use Rattle.schedule.specs.Schedule.{Schedule, Decoded, faulty, good}
+use Rattle.schedule.specs.Schedule.{Schedule, Decoded, faulty, good, steps#}
 use Rattle.schedule.specs.declared.front.Fault.{Fault}
 use Rattle.schedule.specs.declared.front.Fault.the-variants.{Length, Version, Body, Kind, Parameter, Step, Surplus}
-
--- what reads a file: `decode` does
-abbrev pub Reader : Type 0
-Reader = List ℕ → Decoded
-
--- the reader gives the fault exactly when p
-pub record Exactly (D : Reader) (f : List ℕ) (fault : Fault) (p : Type 0) : Type 0 where
-  pub when : D f ≡ faulty fault → p
-  pub given : p → D f ≡ faulty fault
 
 -- ---------- the front, test after test
 
@@ -73,14 +64,14 @@ pub record WrongParameter (f : List ℕ) : Type 0 where
 
 -- what is a step and what is not: length 0, past the body, or not its tag's; no unknown tag has a length
 pub record Stands (kind : ℕ) (f : List ℕ) (at next : ℕ) : Type 0 where
-  pub some : getD f at 0 ≡ 0 → ⊥
+  pub nonzero : getD f at 0 ≡ 0 → ⊥
   pub fits : at + 1 + getD f at 0 ≤ length f
   pub own : lengthOf kind (getD f (at + 1) 0) ≡ getD f at 0
   pub ends : next ≡ at + 1 + getD f at 0
 
 -- k whole steps of a kind stand one after the other from a place to another
 pub data Whole# (kind : ℕ) (f : List ℕ) : ℕ → ℕ → ℕ → Type 0 where
-  none : {at : ℕ} → Whole# kind f at 0 at
+  no-more : {at : ℕ} → Whole# kind f at 0 at
   more : {at next to k : ℕ} → Stands kind f at next → Whole# kind f next k to → Whole# kind f at (suc k) to
 
 abbrev pub Malformed : ℕ → List ℕ → ℕ → Type 0
@@ -107,24 +98,32 @@ pub record SurplusBytes (f : List ℕ) : Type 0 where
   pub before : Whole# (getD f 3 0) f from limit.steps at
   pub remain : at < length f
 
--- no fault: the steps end where the file does
-pub record WellFormed (f : List ℕ) : Type 0 where
+-- no fault: n steps, which end where the file does
+pub record WellFormed (f : List ℕ) (n : ℕ) : Type 0 where
   pub framed : Framed f
   pub from : ℕ
   pub ready : Ready f from
-  pub steps : ℕ
-  pub few : steps ≤ limit.steps
-  pub all : Whole# (getD f 3 0) f from steps (length f)
+  pub few : n ≤ limit.steps
+  pub all : Whole# (getD f 3 0) f from n (length f)
 
 -- ---------- the seven lines of the table, and the eighth that is none of them
 
+abbrev pub HasFault : List ℕ → Fault → Type 0
+HasFault f Length = WrongLength f
+HasFault f Version = WrongVersion f
+HasFault f Body = LongBody f
+HasFault f Kind = UnknownKind f
+HasFault f Parameter = WrongParameter f
+HasFault f (Step k) = BrokenStep f k
+HasFault f Surplus = SurplusBytes f
+
+-- what reads a file: `decode` does
+abbrev pub Reader : Type 0
+Reader = List ℕ → Decoded
+
+-- a reader gives each fault exactly when the file has it, and a schedule exactly where the file is well formed, with as many steps
 pub record FaultsGiven (D : Reader) (f : List ℕ) : Type 0 where
-  pub code1 : Exactly D f Length (WrongLength f)
-  pub code2 : Exactly D f Version (WrongVersion f)
-  pub code3 : Exactly D f Body (LongBody f)
-  pub code4 : Exactly D f Kind (UnknownKind f)
-  pub code5 : Exactly D f Parameter (WrongParameter f)
-  pub code6 : (k : ℕ) → Exactly D f (Step k) (BrokenStep f k)
-  pub code7 : Exactly D f Surplus (SurplusBytes f)
-  pub none : (s : Schedule) → D f ≡ good s → WellFormed f
-  pub sound : WellFormed f → (s : Schedule) × (D f ≡ good s)
+  pub faulty-has : (x : Fault) → D f ≡ faulty x → HasFault f x
+  pub has-faulty : (x : Fault) → HasFault f x → D f ≡ faulty x
+  pub good-formed : (s : Schedule) → D f ≡ good s → WellFormed f (steps# s)
+  pub formed-good : (n : ℕ) → WellFormed f n → (s : Schedule) × (D f ≡ good s)

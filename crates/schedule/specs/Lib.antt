@@ -7,7 +7,7 @@ pub mod Front
 pub mod Counting
 pub mod Finding
 pub mod Schedule
-pub mod Canonical
 pub mod Given
+pub mod Canonical
 pub mod Answers
 pub mod Running

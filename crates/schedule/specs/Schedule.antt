@@ -16,6 +16,7 @@ use Rattle.schedule.specs.declared.steps.FlatStep.{FlatStep}
 use Rattle.schedule.specs.declared.steps.LockStep.{LockStep}
 use Rattle.schedule.specs.declared.steps.CountingStep.{CountingStep}
 use Rattle.schedule.specs.declared.steps.FlagStep.{FlagStep}
+use Rattle.schedule.specs.declared.steps.Params.{Params}
 use Rattle.schedule.specs.declared.steps.Params.the-variants.{Flat, Lock, Counting, Flag}
 use Rattle.schedule.specs.declared.front.Fault.{Fault}
 use Rattle.schedule.specs.declared.front.Fault.the-variants.{Step, Surplus}
@@ -57,11 +58,34 @@ decode f = behindFront f (openedOf f)
 abbrev pub stepsBytes : {S : Type 0} → Language S → List S → List ℕ
 stepsBytes l xs = pieces (stepBytes l) xs
 
+-- the parameters of a schedule, how many steps it has, and their bytes
+abbrev pub paramsIn : Schedule → Params
+paramsIn (ofFlat n xs) = Flat n
+paramsIn (ofLock n t xs) = Lock n t
+paramsIn (ofCounting xs) = Counting
+paramsIn (ofFlag n v xs) = Flag n v
+
+abbrev pub steps# : Schedule → ℕ
+steps# (ofFlat n xs) = length xs
+steps# (ofLock n t xs) = length xs
+steps# (ofCounting xs) = length xs
+steps# (ofFlag n v xs) = length xs
+
+abbrev pub allSteps : Schedule → List ℕ
+allSteps (ofFlat n xs) = stepsBytes flat xs
+allSteps (ofLock n t xs) = stepsBytes lock xs
+allSteps (ofCounting xs) = stepsBytes counting xs
+allSteps (ofFlag n v xs) = stepsBytes flag xs
+
+-- a kind's byte and its parameters, with which a body begins
+abbrev pub frontBytes : Params → List ℕ
+frontBytes (Flat n) = kind.flat ∷ n ∷ []
+frontBytes (Lock n t) = kind.lock ∷ n ∷ big 4 t
+frontBytes Counting = kind.counting ∷ []
+frontBytes (Flag n v) = kind.flag ∷ n ∷ boolByte v ∷ []
+
 abbrev pub body : Schedule → List ℕ
-body (ofFlat n xs) = kind.flat ∷ n ∷ stepsBytes flat xs
-body (ofLock n t xs) = kind.lock ∷ n ∷ (big 4 t ++ stepsBytes lock xs)
-body (ofCounting xs) = kind.counting ∷ stepsBytes counting xs
-body (ofFlag n v xs) = kind.flag ∷ n ∷ boolByte v ∷ stepsBytes flag xs
+body s = frontBytes (paramsIn s) ++ allSteps s
 
 unfoldable pub encode : Schedule → List ℕ
 encode s = 1 ∷ (big 2 (length (body s)) ++ body s)
@@ -73,9 +97,21 @@ abbrev pub StepsFit : {S : Type 0} → Language S → List S → Type 0
 StepsFit l [] = Unit {0}
 StepsFit l (x ∷ xs) = Writable l x × StepsFit l xs
 
+abbrev pub AllFit : Schedule → Type 0
+AllFit (ofFlat n xs) = StepsFit flat xs
+AllFit (ofLock n t xs) = StepsFit lock xs
+AllFit (ofCounting xs) = StepsFit counting xs
+AllFit (ofFlag n v xs) = StepsFit flag xs
+
+-- parameters that a file may have
+abbrev pub Allowed : Params → Type 0
+Allowed (Flat n) = n ≤ limit.clients
+Allowed (Lock n t) = (1 ≤ n) × (n ≤ limit.width) × (t < 256 ^ 4)
+Allowed Counting = Unit {0}
+Allowed (Flag n v) = (1 ≤ n) × (n ≤ limit.threads)
+
 -- parameters and step count in their limits, and all numbers fit
-abbrev pub InLimits : Schedule → Type 0
-InLimits (ofFlat n xs) = (n ≤ limit.clients) × (length xs ≤ limit.steps) × StepsFit flat xs
-InLimits (ofLock n t xs) = (1 ≤ n) × (n ≤ limit.width) × (t < 256 ^ 4) × (length xs ≤ limit.steps) × StepsFit lock xs
-InLimits (ofCounting xs) = (length xs ≤ limit.steps) × StepsFit counting xs
-InLimits (ofFlag n v xs) = (1 ≤ n) × (n ≤ limit.threads) × (length xs ≤ limit.steps) × StepsFit flag xs
+pub record InLimits (s : Schedule) : Type 0 where
+  pub allowed : Allowed (paramsIn s)
+  pub few : steps# s ≤ limit.steps
+  pub fit : AllFit s

@@ -83,9 +83,16 @@ widthsOf kind t = getD (getD widths kind []) t []
 abbrev pub lengthOf : ℕ → ℕ → ℕ
 lengthOf kind t = sum (λ w. w) (widthsOf kind t)
 
--- a row that has the length of each tag of a kind: nine tags, from 0 on, are all that any kind has
+-- how many kinds and tags there are, both counted from 0 on: no kind has a tag past the last
+abbrev pub kinds : ℕ
+kinds = 5
+
+abbrev pub tags : ℕ
+tags = 9
+
+-- a row that has the length of each tag of a kind
 pub record RowOf (kind : ℕ) (row : List ℕ) : Type 0 where
-  pub at : (t : ℕ) → t < 9 → getD row t 0 ≡ lengthOf kind t
+  pub at : (t : ℕ) → t < tags → getD row t 0 ≡ lengthOf kind t
 
 -- the widths of a step's numbers, those behind its tag
 abbrev pub numberWidths : ℕ → ℕ → List ℕ

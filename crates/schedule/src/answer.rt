@@ -1,6 +1,8 @@
 // The answer to a whole file: code and place, and how much was written to each buffer.
+use super::front;
+use super::front::Fault;
 ghost use mathlib.Core.Path.{_≡_};
-ghost use Rattle.schedule.specs.Answers.{refusedAs};
+ghost use Rattle.schedule.specs.Answers.{refusedAs, refusedFor};
 
 pub struct Answer {
     pub place: usize,
@@ -19,4 +21,11 @@ pub fn refused(code: u8, place: usize) -> Answer
         imaged: 0,
         code,
     }
+}
+
+// Nothing was written, for the fault that a file has.
+pub fn of_fault(f: Fault) -> Answer
+    ensures { λ r. ⌜ r ≡ refusedFor f ⌝ }
+{
+    refused(front::code(f), front::place(f))
 }

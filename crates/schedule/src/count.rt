@@ -36,7 +36,7 @@ pub fn count(kind: u8, file: &[u8], from: usize) -> Counted
             break Counted::Faulty(Fault::Step { index: k });
         }
         let tag = file[b] as usize;
-        if 9 <= tag {
+        if lengths::TAGS <= tag {
             break Counted::Faulty(Fault::Step { index: k });
         }
         if row[tag] != n {

@@ -21,7 +21,7 @@ pub fn code(f: Fault) -> u8
     ensures { λ r. ⌜ r ≡ faultCode f ⌝ }
 {
     match f {
-        Fault::Length => codes::LENGTH,
+        Fault::Length => codes::WRONG_LENGTH,
         Fault::Version => codes::VERSION,
         Fault::Body => codes::BODY,
         Fault::Kind => codes::KIND,

@@ -17,8 +17,13 @@ pub const TAG_WHAT_WHAT: usize = 10;
 
 pub const TAG_WHO_WHAT_WHAT: usize = 11;
 
-// A row for each kind and a column for each tag, both from 0 on; 0 where there is no such step.
-const LENGTHS: [[u8; 9]; 5] = [
+// How many rows and columns the table has: the kinds and the tags, both from 0 on.
+pub const KINDS: usize = 5;
+
+pub const TAGS: usize = 9;
+
+// 0 where there is no such step.
+const LENGTHS: [[u8; TAGS]; KINDS] = [
     [0, 0, 0, 0, 0, 0, 0, 0, 0],
     [0, 10, 2, 1, 1, 1, 9, 1, 1],
     [0, 1, 1, 1, 5, 2, 2, 6, 0],
@@ -27,11 +32,11 @@ const LENGTHS: [[u8; 9]; 5] = [
 ];
 
 // A kind's row of the table, of zeros where there is no such kind. Whoever walks a file looks it up once.
-pub fn row_of(kind: u8) -> [u8; 9]
+pub fn row_of(kind: u8) -> [u8; TAGS]
     ensures { λ r. ⌜ RowOf kind r ⌝ }
 {
-    if kind < 5 {
-        let row = kind as usize;
+    let row = kind as usize;
+    if row < KINDS {
         return LENGTHS[row];
     }
     LENGTHS[0]
@@ -41,10 +46,10 @@ pub fn row_of(kind: u8) -> [u8; 9]
 pub fn length_of(kind: u8, tag: u8) -> u8
     ensures { λ r. ⌜ r ≡ lengthOf kind tag ⌝ }
 {
-    if kind < 5 {
-        if tag < 9 {
-            let row = kind as usize;
-            let column = tag as usize;
+    let row = kind as usize;
+    let column = tag as usize;
+    if row < KINDS {
+        if column < TAGS {
             return LENGTHS[row][column];
         }
     }

@@ -21,14 +21,8 @@ count-requires c κs = search needs
 enum-known-f : tie.Need-enum-known-f
 enum-known-f c = search needs
 
-code-requires : tie.Need-code-requires
-code-requires c κs = search needs
-
-place-requires : tie.Need-place-requires
-place-requires c κs = search needs
-
-refused-requires-2 : tie.Need-refused-requires-2
-refused-requires-2 c κs = search needs
+of-fault-requires : tie.Need-of-fault-requires
+of-fault-requires c κs = search needs
 
 enum-known-n : tie.Need-enum-known-n
 enum-known-n c = search needs
@@ -57,9 +51,7 @@ rest-spec =
     returns
     count-requires
     enum-known-f
-    code-requires
-    place-requires
-    refused-requires-2
+    of-fault-requires
     enum-known-n
     replayed-requires
     returns-2

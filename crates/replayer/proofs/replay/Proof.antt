@@ -10,14 +10,8 @@ front-requires c κs = search needs
 enum-known-f : tie.Need-enum-known-f
 enum-known-f c = search needs
 
-code-requires : tie.Need-code-requires
-code-requires c κs = search needs
-
-place-requires : tie.Need-place-requires
-place-requires c κs = search needs
-
-refused-requires : tie.Need-refused-requires
-refused-requires c κs = search needs
+of-fault-requires : tie.Need-of-fault-requires
+of-fault-requires c κs = search needs
 
 enum-known-params : tie.Need-enum-known-params
 enum-known-params c = search needs
@@ -43,9 +37,7 @@ replay-spec =
     (tie.spec
     front-requires
     enum-known-f
-    code-requires
-    place-requires
-    refused-requires
+    of-fault-requires
     enum-known-params
     behind-front-requires
     returns

@@ -2,13 +2,13 @@
 use Prim.Native.Nat.{_*_, _-_}
 use borrow.Author.Needs.{needs}
 use Rattle.schedule.specs.Limits as limit
-use Rattle.raw.specs.Raw.{clientAt}
+use Rattle.raw.specs.Raw.{clientLong, clientAt}
 use Rattle.raw.proofs.Filling.{Filling, filling-begins, filling-more, filling-ends}
 use Rattle.raw.proofs.flat_raw.clients_from.Statement.{statement}
 use Rattle.raw.proofs.flat_raw.clients_from.Tie as tie
 
 abbrev Inv-loop : tie.InvT-loop
-Inv-loop raw clients₀ k₀ clients k = Filling (λ i. clientAt raw (16 * i)) limit.clients clients k
+Inv-loop raw clients₀ k₀ clients k = Filling (λ i. clientAt raw (clientLong * i)) limit.clients clients k
 
 abbrev μ-loop : tie.MeasureT-loop
 μ-loop raw clients₀ k₀ clients k = limit.clients - k

@@ -2,13 +2,13 @@
 use Prim.Native.Nat.{_+_, _*_, _-_}
 use borrow.Author.Needs.{needs}
 use Rattle.schedule.specs.Limits as limit
-use Rattle.raw.specs.Raw.{elemAt}
+use Rattle.raw.specs.Raw.{elemLong, elemsAt, elemAt}
 use Rattle.raw.proofs.Filling.{Filling, filling-begins, filling-more, filling-ends}
 use Rattle.raw.proofs.flat_raw.elems_from.Statement.{statement}
 use Rattle.raw.proofs.flat_raw.elems_from.Tie as tie
 
 abbrev Inv-loop : tie.InvT-loop
-Inv-loop raw elems₀ k₀ elems k = Filling (λ i. elemAt raw (16 * limit.clients + 5 * i)) limit.clients elems k
+Inv-loop raw elems₀ k₀ elems k = Filling (λ i. elemAt raw (elemsAt + elemLong * i)) limit.clients elems k
 
 abbrev μ-loop : tie.MeasureT-loop
 μ-loop raw elems₀ k₀ elems k = limit.clients - k
