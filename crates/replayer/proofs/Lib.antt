@@ -5,7 +5,6 @@ pub mod Four
 pub mod ByKind
 pub mod Demands
 pub mod Settles
-pub mod Plainly
 pub mod Tabled
 pub mod Refuted
 pub mod Settled

@@ -1,14 +1,14 @@
 -- The answer to the steps of a schedule, for any kind: 8 without room, and else the replay; its codes, what it writes, and the history that it tells of.
 -- Assumes nothing.
-use mathlib.Core.Path.{_≡_, refl}
+use mathlib.Core.Path.{_≡_, refl, sym, ap, _∙_}
 use mathlib.Core.Bool.{Bool, true, _&&_}
 use mathlib.Core.Logic.{_⊎_, inl, inr}
-use mathlib.Core.List.{List, [], _∷_}
+use mathlib.Core.List.{List, [], _∷_, _++_}
 use Prim.Native.Nat.{ℕ, _*_, _≤_}
 use native.Mathlib.Omega.{arith}
 use borrow.Author.Tests.{leb-true, ltb-true, ltb-false, le-ltb}
 use lib.Dec.{leb, ltb}
-use lib.ListN.{length, take}
+use lib.ListN.{length, take, drop, take-append-drop}
 use lib.Seq.{take-take}
 use Rattle.rows.specs.Stores.{over}
 use Rattle.rows.specs.Walk.{pieces}
@@ -16,17 +16,17 @@ use Rattle.rows.proofs.Cases.{on, both-true}
 use Rattle.machine.specs.Codes as code
 use Rattle.machine.specs.Check.{Check, first}
 use Rattle.machine.specs.History.{logOf}
-use Rattle.machine.specs.Replay.{Replayed, replay, AllAccepted, Finished, Stopped}
+use Rattle.machine.specs.Replay.{Replayed, replay, AllAccepted, Finished, Stopped, entries}
 use Rattle.machine.specs.Rest.{Rested, untouched, finished}
 use Rattle.machine.specs.Sourced.{Upholds}
 use Rattle.machine.proofs.Replays.{told, all-take}
-use Rattle.machine.proofs.Pasts.{replay-log}
+use Rattle.machine.proofs.Pasts.{replay-log, past-log, entries-append}
 use Rattle.machine.proofs.Rests.{replay-short}
 use Rattle.machine.proofs.Sourceds.{exact}
 use Rattle.schedule.specs.Limits as limit
 use Rattle.schedule.specs.Running.{runSteps}
 use Rattle.schedule.proofs.Running.{Carries}
-use Rattle.replayer.specs.Kinds.{Kind, machineOf, StateOf, StepOf, Sound}
+use Rattle.replayer.specs.Kinds.{Kind, machineOf, StateOf, StepOf, EntryOf, Sound}
 use Rattle.replayer.specs.Demands.{Room, OfAStep, Wrote, Replays, pastOf, afterOf}
 
 -- ---------- the codes of a step
@@ -147,6 +147,20 @@ module _ (k : Kind) (xs : List (StepOf k)) (log image : List ℕ) where
   logs-history = by-room (length xs) log image
       (λ r. rw (with-room r, replay-log (machineOf k) (k .fresh) xs) (refl, refl))
       (λ z. rw (no-room z) (refl, refl))
+
+  -- a longer part logs what a shorter one did, and more behind it
+  pub logs-grow : (n m : ℕ) → n ≤ m
+      → (more : List (EntryOf k)) × (logOf (pastOf k (take m xs)) ≡ logOf (pastOf k (take n xs)) ++ more)
+  logs-grow n m l =
+      let ys = drop n (take m xs) in
+      let split : take m xs ≡ take n xs ++ ys = rw (← take-take n m xs l) (sym (take-append-drop n (take m xs))) in
+      let more = entries (machineOf k) (afterOf k (take n xs)) ys in (
+        more,
+        past-log (machineOf k) [] (k .fresh) (take m xs)
+            ∙ ap (λ (zs : List (StepOf k)). entries (machineOf k) (k .fresh) zs) split
+            ∙ entries-append (machineOf k) (k .fresh) (take n xs) ys
+            ∙ ap (λ (es : List (EntryOf k)). es ++ more) (sym (past-log (machineOf k) [] (k .fresh) (take n xs))),
+      )
 
   pub shows-state : Room (length xs) log image → let i = k .runner .image (afterOf k (take (answer .place) xs)) in (answer .imaged ≡ length i) × (answer .image ≡ over i image)
   shows-state r = rw (with-room r, ← told (machineOf k) (k .fresh) xs .state) (refl, refl)

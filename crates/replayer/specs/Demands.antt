@@ -1,12 +1,13 @@
--- THE THREE DEMANDS, of any replayer R, any bytes and any two buffers. The user's sentences stand above the clauses that give them ("document 01" is the
+-- THE THREE DEMANDS, of any replayer R, any bytes f and any two buffers. The user's sentences stand above the clauses that give them ("document 01" is the
 -- scope). proofs/Demands.antt proves all three of `replayOf`, which `replay` promises; proofs/Settles.antt proves that no other R meets the first two. The
--- words used: `Kind`, what a machine brings (specs/Kinds); `Rested`, what a call answers and leaves (machine specs/Rest); `single`, one step on any state
--- (machine specs/Single); `Exact` and `Upholds`, going by the source (machine specs/Sourced). Assumes nothing.
+-- words used: `HasFault`, the scope's table of codes 1 to 7 (schedule specs/Given); `FileOf`, the file that a schedule has (schedule specs/Canonical); `Kind`,
+-- what a machine brings (specs/Kinds); `Rested`, what a call answers and leaves (machine specs/Rest); `single`, one step on any state (machine specs/Single);
+-- `Exact` and `Upholds`, going by the source (machine specs/Sourced). No clause speaks of how a file is read. Assumes nothing.
 use mathlib.Core.Path.{_≡_}
 use mathlib.Core.Logic.{_⊎_}
-use mathlib.Core.List.{List, []}
+use mathlib.Core.List.{List, [], _++_}
 use mathlib.Core.Option.{Option, none, some}
-use Prim.Native.Nat.{ℕ, _*_, _≤_, _<_}
+use Prim.Native.Nat.{ℕ, _+_, _*_, _≤_, _<_}
 use lib.ListN.{length, take}
 use Rattle.rows.specs.Bytes.{Bytes}
 use Rattle.rows.specs.Stores.{over}
@@ -19,19 +20,19 @@ use Rattle.machine.specs.Sourced.{Reason, Enabled, AllEnabled, Exact, Upholds}
 use Rattle.machine.specs.Codes as code
 use Rattle.schedule.specs.Limits as limit
 use Rattle.schedule.specs.Front.{faultCode, faultPlace}
-use Rattle.schedule.specs.Given.{Reader, FaultsGiven}
-use Rattle.schedule.specs.Schedule.{Schedule, faulty, good, decode, encode, InLimits}
+use Rattle.schedule.specs.Given.{HasFault}
+use Rattle.schedule.specs.Canonical.{FileOf, Sorted}
 use Rattle.schedule.specs.declared.front.Fault.{Fault}
 use Rattle.schedule.specs.declared.steps.Params.{Params}
-use Rattle.replayer.specs.Kinds.{Kind, machineOf, StateOf, StepOf, Sound, kindOf, Steps}
+use Rattle.replayer.specs.Kinds.{Kind, machineOf, StateOf, StepOf, EntryOf, Sound, kindOf, Steps}
 
 -- a file and two buffers go in; an answer and what the buffers hold come out
 abbrev pub Replayer : Type 0
 Replayer = List ℕ → List ℕ → List ℕ → Rested
 
--- the file says: these steps, of the kind with these parameters
+-- f is the file of these steps, of the kind with these parameters, all in their limits
 abbrev pub Says : List ℕ → (p : Params) → Steps p → Type 0
-Says f p xs = decode f ≡ good (kindOf p .schedule xs)
+Says f p xs = FileOf f (kindOf p .schedule xs)
 
 -- buffers of the scope's sizes for n steps
 pub record Room (n : ℕ) (log image : List ℕ) : Type 0 where
@@ -93,22 +94,18 @@ pub record Wrote (count : ℕ) (before after : List ℕ) : Type 0 where
   pub fits : length bytes ≤ length before
   pub over-front : after ≡ over bytes before
 
--- what a reader D finds in the file f is what the file says. The reader is `decode`: it reads so, and on bytes no other reader does (proofs/Settles)
-pub record Reads (D : Reader) (f : List ℕ) : Type 0 where
-  -- codes 1 to 7, each exactly when the scope gives it
-  pub given : FaultsGiven D f
-  -- the schedule that is found is in its limits, and f is its file; and every schedule in its limits is found in its file
-  pub again : (s : Schedule) → Bytes f → D f ≡ good s → (encode s ≡ f) × InLimits s
-  pub back : (s : Schedule) → InLimits s → D (encode s) ≡ good s
-
--- "Any bytes given as a schedule get one answer, and the caller never has to have checked anything": R is a function, of any three lists
+-- "Any bytes given as a schedule get one answer, and the caller never has to have checked anything": R is a function, and what it is given is sorted
 pub record Demand1 (R : Replayer) (f log image : List ℕ) : Type 0 where
-  -- codes 1 to 7
-  pub reads : Reads decode f
-  pub fault : (x : Fault) → decode f ≡ faulty x → R f log image ≡ untouched (faultCode x) (faultPlace x) log image
-  -- then 8 exactly when a buffer is under its size; else 0, or a step's, 11 to 18
+  -- exactly one line of the table of codes 1 to 7 applies to f, or f is the file of exactly one schedule
+  pub sorted : Sorted f
+  -- 1 to 7, with the place of its line; then 8 where a buffer is under its size; else 0, or a step's, 11 to 18
+  pub fault : (x : Fault) → HasFault f x → R f log image ≡ untouched (faultCode x) (faultPlace x) log image
   pub short : (p : Params) (xs : Steps p) → Says f p xs → (Room (length xs) log image → ⊥) → R f log image ≡ untouched code.room 0 log image
   pub roomy : (p : Params) (xs : Steps p) → Says f p xs → Room (length xs) log image → let c = R f log image .code in (c ≡ 0) ⊎ OfAStep c
+  -- and each only then
+  pub only-fault : (x : Fault) → R f log image .code ≡ faultCode x → R f log image .place ≡ faultPlace x → HasFault f x
+  pub only-short : R f log image .code ≡ code.room → (p : Params) × (xs : Steps p) × Says f p xs × (Room (length xs) log image → ⊥)
+  pub only-roomy : let c = R f log image .code in (c ≡ 0) ⊎ OfAStep c → (p : Params) × (xs : Steps p) × Says f p xs × Room (length xs) log image
   -- "A refused file leaves the log and state buffers untouched." A file is refused by 1 to 8 (9 and 10 are no file's)
   pub refused-file : let a = R f log image in 1 ≤ a .code → a .code ≤ code.unsound → a ≡ untouched (a .code) (a .place) log image
   pub known : let c = R f log image .code in (c ≡ 0) ⊎ ((1 ≤ c) × (c ≤ code.room)) ⊎ OfAStep c
@@ -142,6 +139,9 @@ pub record Demand3 (R : Replayer) (f log image : List ℕ) : Type 0 where
   pub logged : (p : Params) (xs : Steps p) → Says f p xs
       → let a = R f log image in let es = pieces (kindOf p .runner .bytes) (logOf (pastOf (kindOf p) (take (a .place) xs))) in
       (a .logged ≡ length es) × (a .log ≡ over es log)
+  -- what a longer part of it logged begins with what a shorter one did
+  pub grows : (p : Params) (xs : Steps p) → Says f p xs → (n m : ℕ) → n ≤ m → m ≤ R f log image .place
+      → (more : List (EntryOf (kindOf p))) × (logOf (pastOf (kindOf p) (take m xs)) ≡ logOf (pastOf (kindOf p) (take n xs)) ++ more)
   -- the image is that of the state that it led to
   pub shown : (p : Params) (xs : Steps p) → Says f p xs → Room (length xs) log image
       → let a = R f log image in let i = kindOf p .runner .image (afterOf (kindOf p) (take (a .place) xs)) in
@@ -156,4 +156,12 @@ pub record Demanded (R : Replayer) (f log image : List ℕ) : Type 0 where
 
 -- what settles R: demands 1 and 2, of any bytes and buffers
 abbrev pub Meets : Replayer → Type 0
-Meets R = (f log image : List ℕ) → Demand1 R f log image × Demand2 R f log image
+Meets R = (f log image : List ℕ) → Bytes f → Demand1 R f log image × Demand2 R f log image
+
+-- ---------- the program's own entry, of an input of any length
+
+-- the scope: over the largest file "it answers 3 at 0 before any other test"; up to there the three demands. So it does not meet demand 1 of every input: one
+-- over the largest whose length bytes are wrong as well is 3 and not 1
+pub record OfInput (R : Replayer) : Type 0 where
+  pub over : (f log image : List ℕ) → limit.body + 3 < length f → R f log image ≡ untouched code.body 0 log image
+  pub under : (f log image : List ℕ) → Bytes f → length f ≤ limit.body + 3 → Demanded R f log image

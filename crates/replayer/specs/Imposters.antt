@@ -1,13 +1,11 @@
--- Replayers and readers that would please without telling the truth. No such replayer meets demands 1 and 2, no such reader `Reads`: proofs/Refuted.antt. Assumes nothing.
+-- Replayers that would please without telling the truth. None meets demands 1 and 2: proofs/Refuted.antt. Assumes nothing.
 use mathlib.Core.Path.{_≡_}
 use mathlib.Core.List.{List, _∷_, []}
 use Prim.Native.Nat.{ℕ, _*_, _-_}
 use lib.ListN.{replicate}
 use Rattle.machine.specs.Rest.{Rested}
-use Rattle.rows.specs.Bytes.{Bytes}
 use Rattle.schedule.specs.Limits as limit
-use Rattle.schedule.specs.Schedule.{Schedule, ofCounting, good}
-use Rattle.schedule.specs.Given.{Reader, WellFormed}
+use Rattle.schedule.specs.Given.{WellFormed}
 use Rattle.replayer.specs.Demands.{Replayer}
 use Rattle.replayer.specs.Cases.{p03, p05}
 
@@ -38,8 +36,5 @@ pub record NoImposter (r : Replayer) : Type 0 where
   -- its log is empty, or made up: P3 logs its one answer, and nothing else
   pub empty-log : ((f log image : List ℕ) → r f log image .logged ≡ 0) → ⊥
   pub log-is-the-answer : on r (p03 .file) .log ≡ 9 ∷ 0 ∷ 0 ∷ 0 ∷ 0 ∷ 7 ∷ 0 ∷ 0 ∷ 0 ∷ 99 ∷ replicate (5 * limit.entry - 10) 0
-
--- a reader finds an empty schedule in every sound file; or the same in two
-pub record NoFalseReader (D : Reader) : Type 0 where
-  pub empty : ((f : List ℕ) (n : ℕ) → WellFormed f n → D f ≡ good (ofCounting [])) → ⊥
-  pub apart : (f g : List ℕ) (s : Schedule) → Bytes f → Bytes g → D f ≡ good s → D g ≡ good s → f ≡ g
+  -- it finds an empty schedule in every file that has no fault
+  pub reads-nothing : ((f log image : List ℕ) (n : ℕ) → WellFormed f n → r f log image .place ≡ 0) → ⊥

@@ -73,6 +73,9 @@ StateOf k = k .runner .machine .State
 abbrev pub StepOf : Kind → Type 0
 StepOf k = k .runner .machine .Step
 
+abbrev pub EntryOf : Kind → Type 0
+EntryOf k = k .runner .machine .Entry
+
 abbrev pub Sound : (k : Kind) → StateOf k → Type 0
 Sound k s = k .runner .Good s
 

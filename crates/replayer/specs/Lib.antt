@@ -1,6 +1,5 @@
 pub mod Replay
 pub mod Kinds
 pub mod Demands
-pub mod Plain
 pub mod Cases
 pub mod Imposters
