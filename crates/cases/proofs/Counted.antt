@@ -10,5 +10,5 @@ use Rattle.lines.specs.Lines.{InFront}
 pub counted : (buffer : List ℕ) (n : ℕ) → n < length buffer → InFront n buffer
 counted buffer n h = (omega arith, sym (length-take-le n buffer (omega arith)))
 
-pub counted-all : (buffer : List ℕ) (n : ℕ) → n ≡ length buffer → InFront n buffer
-counted-all buffer n e = (omega arith, sym (length-take-le n buffer (omega arith)))
+pub counted_all : (buffer : List ℕ) (n : ℕ) → n ≡ length buffer → InFront n buffer
+counted_all buffer n e = (omega arith, sym (length-take-le n buffer (omega arith)))

@@ -12,8 +12,8 @@ use Rattle.counting.specs.declared.entry.Entry.TheVariants.{Withdrawn, Granted}
 
 -- ---------- fresh: nothing stored, no counter, no reference
 
-abbrev pub freshState : State
-freshState = record { t = 0; count = 0; refs = 0; present = false }
+abbrev pub fresh_state : State
+fresh_state = record { t = 0; count = 0; refs = 0; present = false }
 
 -- ---------- the tests
 

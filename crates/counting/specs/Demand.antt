@@ -4,7 +4,7 @@ use Rattle.std.proofs.Math.Option.{Option, none, some}
 use Rattle.machine.specs.History.{History, Run, did#, logged#}
 use Rattle.schedule.specs.declared.steps.CountingStep.{CountingStep}
 use Rattle.schedule.specs.declared.steps.CountingStep.TheVariants.{WriteableToReadable, ReadableToWriteable, NewRef, DeleteRef}
-use Rattle.counting.specs.Counting.{counting, freshState}
+use Rattle.counting.specs.Counting.{counting, fresh_state}
 use Rattle.counting.specs.declared.state.State.{State}
 use Rattle.counting.specs.declared.entry.Entry.{Entry}
 use Rattle.counting.specs.declared.entry.Entry.TheVariants.{Withdrawn, Granted}
@@ -37,24 +37,24 @@ abbrev pub Held : Hist → ℕ → Type 0
 Held h u = deleted h u < granted h u
 
 -- the value stored: that of the latest writeable_to_readable, unless a readable_to_writeable came after it
-abbrev pub storedBy : CountingStep → Option ℕ → Option ℕ
-storedBy (WriteableToReadable t) before = some t
-storedBy ReadableToWriteable before = none
-storedBy NewRef before = before
-storedBy (DeleteRef t) before = before
+abbrev pub stored_by : CountingStep → Option ℕ → Option ℕ
+stored_by (WriteableToReadable t) before = some t
+stored_by ReadableToWriteable before = none
+stored_by NewRef before = before
+stored_by (DeleteRef t) before = before
 
 abbrev pub stored : Hist → Option ℕ
 stored [] = none
-stored (e ∷ h) = storedBy e.did (stored h)
+stored (e ∷ h) = stored_by e.did (stored h)
 
 -- ---------- the demand
 
 pub record Demand (h : Hist) : Type 0 where
   -- no reference is given back that was not handed out
-  pub never-more : (u : ℕ) → deleted h u ≤ granted h u
+  pub never_more : (u : ℕ) → deleted h u ≤ granted h u
   -- each reference that is held carries the stored value, so that two held together are equal
-  pub held-stored : (u : ℕ) → Held h u → stored h ≡ some u
-  pub held-equal : (u v : ℕ) → Held h u → Held h v → u ≡ v
+  pub held_stored : (u : ℕ) → Held h u → stored h ≡ some u
+  pub held_equal : (u v : ℕ) → Held h u → Held h v → u ≡ v
   -- what is withdrawn is the value stored, and no reference to anything is held then
   pub withdrawn : (later before : Hist) (es : List Entry) → h ≡ later ++ (record { did = ReadableToWriteable; wrote = es } ∷ before)
       → (t : ℕ) × (stored before ≡ some t) × (es ≡ Withdrawn t ∷ []) × ((u : ℕ) → deleted before u ≡ granted before u)
@@ -64,10 +64,10 @@ pub record Demand (h : Hist) : Type 0 where
 
 -- after every accepted prefix from a fresh machine
 abbrev pub Demanded : Type 0
-Demanded = (h : Hist) (s : State) → Run counting freshState h s → Demand h
+Demanded = (h : Hist) (s : State) → Run counting fresh_state h s → Demand h
 
 -- and the references in the state are counted: of each value, those handed out are those given back and those that the state has, and what it stores is what
 -- the history says
 abbrev pub RefsCounted : Type 0
-RefsCounted = (h : Hist) (s : State) → Run counting freshState h s
+RefsCounted = (h : Hist) (s : State) → Run counting fresh_state h s
     → ((u : ℕ) → granted h u ≡ deleted h u + cond (eqb u s.t) s.refs 0) × (stored h ≡ cond s.present (some s.t) none)

@@ -10,10 +10,10 @@ use Rattle.counting.specs.declared.entry.Entry.TheVariants.{Withdrawn, Granted}
 abbrev pub tagged : ℕ → ℕ → List ℕ
 tagged tag t = 5 ∷ tag ∷ big 4 t
 
-abbrev pub entryBytes : Entry → List ℕ
-entryBytes (Withdrawn t) = tagged 1 t
-entryBytes (Granted t) = tagged 2 t
+abbrev pub entry_bytes : Entry → List ℕ
+entry_bytes (Withdrawn t) = tagged 1 t
+entry_bytes (Granted t) = tagged 2 t
 
 -- present, t, count, refs
-abbrev pub imageBytes : State → List ℕ
-imageBytes s = bool_byte s.present ∷ (big 4 s.t ++ (s.count ∷ s.refs ∷ []))
+abbrev pub image_bytes : State → List ℕ
+image_bytes s = bool_byte s.present ∷ (big 4 s.t ++ (s.count ∷ s.refs ∷ []))

@@ -1,6 +1,6 @@
 -- The transitions on any state, also on one that no history leads to. Assumes nothing.
 use Rattle.std.specs.Prelude.{Bool, true, ltb}
-use Rattle.machine.specs.Move.{moveCode, moveTo}
+use Rattle.machine.specs.Move.{move_code, move_to}
 use Rattle.schedule.specs.Limits as limit
 use Rattle.schedule.specs.declared.steps.CountingStep.{CountingStep}
 use Rattle.schedule.specs.declared.steps.CountingStep.TheVariants.{WriteableToReadable, ReadableToWriteable, NewRef, DeleteRef}
@@ -16,4 +16,4 @@ movable s NewRef = ltb s.refs limit.counter
 movable s (DeleteRef t) = ltb 0 s.count
 
 abbrev pub moved : State → CountingStep → Moved
-moved s x = record { state = moveTo (tests s x) (movable s x) (next s x) s; code = moveCode (tests s x) (movable s x) }
+moved s x = record { state = move_to (tests s x) (movable s x) (next s x) s; code = move_code (tests s x) (movable s x) }

@@ -1,6 +1,6 @@
 // What an accepted step logs, and its bytes.
 ghost use Rattle.rows.specs.Stores.{Laid};
-ghost use Rattle.counting.specs.Image.{entryBytes, tagged};
+ghost use Rattle.counting.specs.Image.{entry_bytes, tagged};
 
 #[derive(Drop)]
 pub enum Entry {
@@ -12,7 +12,7 @@ pub enum Entry {
 
 // The entry's bytes at a place of the log, all or nothing; the answer is the place after them.
 pub fn put_entry(log: &mut [u8], at: usize, e: Entry) -> usize
-    ensures { Laid log.old at (entryBytes e) result log.new }
+    ensures { Laid log.old at (entry_bytes e) result log.new }
 {
     match e {
         Entry::Withdrawn { t } => put_tagged(log, at, 1, t),

@@ -1,8 +1,8 @@
 // The state of the counting machine: fresh, and its image.
 ghost use Rattle.std.specs.Prelude.{◌≡◌};
 ghost use Rattle.rows.specs.Stores.{Laid};
-ghost use Rattle.counting.specs.Counting.{freshState};
-ghost use Rattle.counting.specs.Image.{imageBytes};
+ghost use Rattle.counting.specs.Counting.{fresh_state};
+ghost use Rattle.counting.specs.Image.{image_bytes};
 
 // The stored value and its counter are there or not together, so one flag serves both. All references carry `t`.
 #[derive(Drop)]
@@ -14,7 +14,7 @@ pub struct State {
 }
 
 pub fn fresh() -> State
-    ensures { result ≡ freshState }
+    ensures { result ≡ fresh_state }
 {
     State {
         t: 0,
@@ -26,7 +26,7 @@ pub fn fresh() -> State
 
 // The image at the front of the buffer, or nothing where it does not fit; the answer is its length.
 pub fn image(s: State, out: &mut [u8]) -> usize
-    ensures { Laid out.old 0 (imageBytes s) result out.new }
+    ensures { Laid out.old 0 (image_bytes s) result out.new }
 {
     if out.len() < 7 {
         return 0;

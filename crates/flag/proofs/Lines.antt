@@ -15,24 +15,24 @@ use Rattle.flag.specs.Source.{Control, Flag, Transition, Moves}
 use Rattle.flag.specs.Flag.{place, tests}
 use Rattle.flag.specs.Refined.{abs, label, lines, Sound}
 use Rattle.flag.specs.declared.state.State.{State}
-use Rattle.flag.proofs.Loop.{outside-zero}
+use Rattle.flag.proofs.Loop.{outside_zero}
 
 -- ---------- the source alone
 
 -- a thread that cannot be in `flip` is outside
-must-return : (c : Control) → ((c ≡ source.returned → ⊥) → ⊥) → c ≡ source.returned
-must-return source.returned n = refl
-must-return source.try-cancel-two-flips n = absurd (n (λ e. clash (cc)))
-must-return source.try-simple-flip n = absurd (n (λ e. clash (cc)))
-must-return source.try-simple-flip-second n = absurd (n (λ e. clash (cc)))
-must-return source.try-handshake n = absurd (n (λ e. clash (cc)))
-must-return source.try-handshake-second n = absurd (n (λ e. clash (cc)))
-must-return source.try-handshake-store n = absurd (n (λ e. clash (cc)))
+must_return : (c : Control) → ((c ≡ source.returned → ⊥) → ⊥) → c ≡ source.returned
+must_return source.returned n = refl
+must_return source.try_cancel_two_flips n = absurd (n (λ e. clash (cc)))
+must_return source.try_simple_flip n = absurd (n (λ e. clash (cc)))
+must_return source.try_simple_flip_second n = absurd (n (λ e. clash (cc)))
+must_return source.try_handshake n = absurd (n (λ e. clash (cc)))
+must_return source.try_handshake_second n = absurd (n (λ e. clash (cc)))
+must_return source.try_handshake_store n = absurd (n (λ e. clash (cc)))
 
 pub goes : (y : Transition) (a : Flag) → Clear (lines a y) → (to : Flag) × Moves a y to
-goes (source.begin k) a c = (_, record { thread = omega (arith, c.0); outside = must-return (a.controls k) c.1.0; update = refl })
+goes (source.begin k) a c = (_, record { thread = omega (arith, c.0); outside = must_return (a.controls k) c.1.0; update = refl })
 goes (source.move k) a c = (_, record { thread = omega (arith, c.0); inside = c.1.0; update = refl })
-goes (source.read k) a c = (_, record { thread = omega (arith, c.0); outside = must-return (a.controls k) c.1.0; update = refl })
+goes (source.read k) a c = (_, record { thread = omega (arith, c.0); outside = must_return (a.controls k) c.1.0; update = refl })
 
 pub clear : (y : Transition) (a to : Flag) → Moves a y to → Clear (lines a y)
 clear (source.begin k) a to v = (λ o. omega (arith, v.thread), (λ n. n v.outside, tt))
@@ -44,7 +44,7 @@ clear (source.read k) a to v = (λ o. omega (arith, v.thread), (λ n. n v.outsid
 module _ (s : State) (i : Sound s) (k : ℕ) where
   -- a place is 0 exactly outside of `flip`
   inside : eqb (place s k) 0 ≡ false → (abs s).controls k ≡ source.returned → ⊥
-  inside e r = eqb-false (place s k) 0 e (outside-zero (place s k) (i.places k) r)
+  inside e r = eqb-false (place s k) 0 e (outside_zero (place s k) (i.places k) r)
 
   outside : eqb (place s k) 0 ≡ true → (abs s).controls k ≡ source.returned
   outside e = rw (eqb-true (place s k) 0 e)

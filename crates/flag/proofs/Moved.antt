@@ -9,71 +9,71 @@ use lib.Dec.{eqb, ltb, leb}
 use lib.ListN.{length, get_or-eq_default}
 use Rattle.rows.specs.Walk.{every, many}
 use Rattle.rows.proofs.Cases.{on, both_true}
-use Rattle.rows.proofs.Walks.{every-at}
+use Rattle.rows.proofs.Walks.{every_at}
 use Rattle.machine.specs.Check.{Check, first}
-use Rattle.machine.proofs.Checks.{all_first, first_past, first-stop}
-use Rattle.machine.proofs.Moves.{move-code}
+use Rattle.machine.proofs.Checks.{all_first, first_past, first_stop}
+use Rattle.machine.proofs.Moves.{move_code_lem}
 use Rattle.schedule.specs.Limits as limit
-use Rattle.flag.specs.Flag.{insideTests, busyTests, place}
-use Rattle.flag.specs.Moved.{mayMove}
-use Rattle.flag.specs.Sound.{sound, placeSound, placesSound, handshake, atSecond, atStore}
+use Rattle.flag.specs.Flag.{inside_tests, busy_tests, place}
+use Rattle.flag.specs.Moved.{may_move}
+use Rattle.flag.specs.Sound.{sound, place_sound, places_sound, handshake, at_second, at_store}
 use Rattle.flag.specs.declared.state.State.{State}
 
 -- ---------- what the test of a state says of its threads
 
-zero-sound : (threads k : ℕ) → placeSound threads k 0 ≡ true
-zero-sound threads k = on (ltb k threads) (λ b. rw b) (λ b. rw b)
+zero_sound : (threads k : ℕ) → place_sound threads k 0 ≡ true
+zero_sound threads k = on (ltb k threads) (λ b. rw b) (λ b. rw b)
 
-entry-small : (threads k p : ℕ) → placeSound threads k p ≡ true → p ≤ 6
-entry-small threads k p h = on (ltb k threads)
+entry_small : (threads k p : ℕ) → place_sound threads k p ≡ true → p ≤ 6
+entry_small threads k p h = on (ltb k threads)
     (λ b. leb-true p 6 (rw b at h))
     (λ b. let z = eqb-true p 0 (rw b at h) in omega arith)
 
 module _ (s : State) (safe : sound s ≡ true) where
-  any-few : (not (eqb s.threads 0) ≡ true) × ((not (ltb limit.threads s.threads) && placesSound s) ≡ true)
-  any-few = both_true (not (eqb s.threads 0)) (not (ltb limit.threads s.threads) && placesSound s) safe
+  any_few : (not (eqb s.threads 0) ≡ true) × ((not (ltb limit.threads s.threads) && places_sound s) ≡ true)
+  any_few = both_true (not (eqb s.threads 0)) (not (ltb limit.threads s.threads) && places_sound s) safe
 
-  few-placed : (not (ltb limit.threads s.threads) ≡ true) × (placesSound s ≡ true)
-  few-placed = both_true (not (ltb limit.threads s.threads)) (placesSound s) any-few.1
+  few_placed : (not (ltb limit.threads s.threads) ≡ true) × (places_sound s ≡ true)
+  few_placed = both_true (not (ltb limit.threads s.threads)) (places_sound s) any_few.1
 
-  placed-agreed : (every (placeSound s.threads) 0 s.places ≡ true) × (handshake s.pending (many atSecond s.places) (many atStore s.places) ≡ true)
-  placed-agreed =
-      both_true (every (placeSound s.threads) 0 s.places) (handshake s.pending (many atSecond s.places) (many atStore s.places)) few-placed.1
+  placed_agreed : (every (place_sound s.threads) 0 s.places ≡ true) × (handshake s.pending (many at_second s.places) (many at_store s.places) ≡ true)
+  placed_agreed =
+      both_true (every (place_sound s.threads) 0 s.places) (handshake s.pending (many at_second s.places) (many at_store s.places)) few_placed.1
 
-  pub any-threads : 1 ≤ s.threads
-  any-threads = let n = eqb-false s.threads 0 (not-true (eqb s.threads 0) any-few.0) in omega arith
+  pub any_threads : 1 ≤ s.threads
+  any_threads = let n = eqb-false s.threads 0 (not-true (eqb s.threads 0) any_few.0) in omega arith
 
-  pub few-threads : s.threads ≤ limit.threads
-  few-threads = ltb-false limit.threads s.threads (not-true (ltb limit.threads s.threads) few-placed.0)
+  pub few_threads : s.threads ≤ limit.threads
+  few_threads = ltb-false limit.threads s.threads (not-true (ltb limit.threads s.threads) few_placed.0)
 
-  pub pending-agrees : handshake s.pending (many atSecond s.places) (many atStore s.places) ≡ true
-  pending-agrees = placed-agreed.1
+  pub pending_agrees : handshake s.pending (many at_second s.places) (many at_store s.places) ≡ true
+  pending_agrees = placed_agreed.1
 
   -- behind the row every place reads 0
-  pub entry-sound : (k : ℕ) → placeSound s.threads k (place s k) ≡ true
-  entry-sound k = on (ltb k (length s.places))
-      (λ b. every-at (placeSound s.threads) 0 s.places placed-agreed.0 k (ltb-true k (length s.places) b))
-      (λ b. rw (get_or-eq_default s.places 0 (ltb-false k (length s.places) b)) (zero-sound s.threads k))
+  pub entry_sound : (k : ℕ) → place_sound s.threads k (place s k) ≡ true
+  entry_sound k = on (ltb k (length s.places))
+      (λ b. every_at (place_sound s.threads) 0 s.places placed_agreed.0 k (ltb-true k (length s.places) b))
+      (λ b. rw (get_or-eq_default s.places 0 (ltb-false k (length s.places) b)) (zero_sound s.threads k))
 
-  pub place-small : (k : ℕ) → place s k ≤ 6
-  place-small k = entry-small s.threads k (place s k) (entry-sound k)
+  pub place_small : (k : ℕ) → place s k ≤ 6
+  place_small k = entry_small s.threads k (place s k) (entry_sound k)
 
 -- ---------- the code a of the first test, that k is a thread
 
-module _ (s : State) (k a : ℕ) (e : a ≡ first (insideTests s.threads k)) where
+module _ (s : State) (k a : ℕ) (e : a ≡ first (inside_tests s.threads k)) where
   -- it holds: the code may read the thread's place
-  pub thread-inside : sound s ≡ true → a ≡ 0 → k < limit.threads
-  thread-inside safe z =
-      let there : k < s.threads = ltb-true k s.threads (all_first (insideTests s.threads k) refl (sym e ∙ z)).0 in
-      omega (arith, few-threads s safe)
+  pub thread_inside : sound s ≡ true → a ≡ 0 → k < limit.threads
+  thread_inside safe z =
+      let there : k < s.threads = ltb-true k s.threads (all_first (inside_tests s.threads k) refl (sym e ∙ z)).0 in
+      omega (arith, few_threads s safe)
 
   -- it fails and decides, or the tests behind it do
-  pub outside-first : (more : List Check) → (a ≡ 0 → ⊥) → a ≡ first (insideTests s.threads k ++ more)
-  outside-first more n = e ∙ first-stop (insideTests s.threads k) more (λ z. n (e ∙ z))
+  pub outside_first : (more : List Check) → (a ≡ 0 → ⊥) → a ≡ first (inside_tests s.threads k ++ more)
+  outside_first more n = e ∙ first_stop (inside_tests s.threads k) more (λ z. n (e ∙ z))
 
-  pub inside-first : (more : List Check) → a ≡ 0 → first more ≡ first (insideTests s.threads k ++ more)
-  inside-first more z = sym (first_past (insideTests s.threads k) more refl (sym e ∙ z))
+  pub inside_first : (more : List Check) → a ≡ 0 → first more ≡ first (inside_tests s.threads k ++ more)
+  inside_first more z = sym (first_past (inside_tests s.threads k) more refl (sym e ∙ z))
 
 -- no place of a sound state is one that a move has to refuse
-pub move-first : (s : State) (k : ℕ) → sound s ≡ true → mayMove (place s k) ≡ first (busyTests (place s k))
-move-first s k safe = move-code (busyTests (place s k)) (leb (place s k) 6) (λ y. le-leb (place s k) 6 (place-small s safe k))
+pub move_first : (s : State) (k : ℕ) → sound s ≡ true → may_move (place s k) ≡ first (busy_tests (place s k))
+move_first s k safe = move_code_lem (busy_tests (place s k)) (leb (place s k) 6) (λ y. le-leb (place s k) 6 (place_small s safe k))

@@ -12,15 +12,15 @@ use Rattle.schedule.specs.declared.steps.FlagStep.TheVariants.{Begin, Move, Read
 use Rattle.flag.proofs.Inductive as source-own
 use mathlib.Core.Path.{◌≡◌, refl}
 use Rattle.flag.specs.Invariants.{FlagInv}
-use Rattle.flag.specs.Flag.{flag, freshState}
+use Rattle.flag.specs.Flag.{flag, fresh_state}
 use Rattle.flag.specs.Refined.{Sound, label, helping, Refines}
 use Rattle.flag.specs.Demand.{Hist}
 use Rattle.flag.specs.declared.state.State.{State}
 use Rattle.flag.proofs.Loop.{table, numbered}
-use Rattle.flag.proofs.Sounds.{sound-means, means-sound, abs-tells, fresh-new, fresh-means, fresh-sound}
-use Rattle.flag.proofs.Kept.{accepted-sound}
+use Rattle.flag.proofs.Sounds.{sound_means, means_sound, abs_tells, fresh_new, fresh_means, fresh_sound}
+use Rattle.flag.proofs.Kept.{accepted_sound}
 use Rattle.flag.proofs.Lines.{goes, clear, tells}
-use Rattle.flag.proofs.Posts.{accepted-moves, moves-one, accepted-logs, hands-one}
+use Rattle.flag.proofs.Posts.{accepted_moves, moves_one, accepted_logs, hands_one}
 use Rattle.flag.proofs.Ends.{ends}
 use Rattle.flag.proofs.Wanders.{unbounded}
 
@@ -37,25 +37,25 @@ owed =
       inductive = record { kept = source-own.inductive; safe = source-own.safe };
       goes = λ y a i. goes y a;
       clear = λ y a to i v b. clear y a to v;
-      moves-one = λ y a p q i. moves-one y a p q;
-      hands-one = hands-one;
+      moves_one = λ y a p q i. moves_one y a p q;
+      hands_one = hands_one;
       inv = λ s i. i.inv;
       tells = tells;
-      moves = accepted-moves;
-      logs = accepted-logs;
-      good = accepted-sound;
-      abs-tells = abs-tells;
+      moves = accepted_moves;
+      logs = accepted_logs;
+      good = accepted_sound;
+      abs_tells = abs_tells;
     }
 
 pub refines : Refines
 refines =
     record {
-      fresh-new = fresh-new;
-      fresh-sound = fresh-sound;
-      sound-means = sound-means;
-      means-sound = means-sound;
+      fresh_new = fresh_new;
+      fresh_sound = fresh_sound;
+      sound_means = sound_means;
+      means_sound = means_sound;
       upholds = upholds helping FlagInv Sound owed;
-      initial = source-own.new-inductive;
+      initial = source-own.new_inductive;
       inductive = owed.inductive;
       complete = complete helping FlagInv Sound owed;
       table = table;
@@ -64,5 +64,5 @@ refines =
       unbounded = unbounded;
     }
 
-pub every-prefix-sound : (n : ℕ) (v : Bool) → 1 ≤ n → n ≤ limit.threads → {h : Hist} {s : State} → Run flag (freshState n v) h s → Sound s
-every-prefix-sound n v any few r = always flag (freshState n v) (λ h s. Sound s) (fresh-means n v any few) (λ h s x i a. accepted-sound s x i a) r
+pub every_prefix_sound : (n : ℕ) (v : Bool) → 1 ≤ n → n ≤ limit.threads → {h : Hist} {s : State} → Run flag (fresh_state n v) h s → Sound s
+every_prefix_sound n v any few r = always flag (fresh_state n v) (λ h s. Sound s) (fresh_means n v any few) (λ h s x i a. accepted_sound s x i a) r

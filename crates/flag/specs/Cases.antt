@@ -2,12 +2,12 @@
 -- step one that is accepted, and for each of its tests one that this test refuses; every place with success and failure of its exchange; and the two
 -- whole runs. Proved by one claim, in proofs/Tabled.antt. Assumes nothing.
 use Rattle.std.specs.Prelude.{ℕ, ◌≡◌, Bool, true, false, ◌&&◌, List, [], ◌∷◌, length, replicate}
-use Rattle.machine.specs.Table.{Case, does, refuses, refusesUnsound, runs, Start, starts, allRight, allWrong, allStarted, noneStarted}
+use Rattle.machine.specs.Table.{Case, does, refuses, refuses_unsound, runs, Start, starts, all_right, all_wrong, all_started, none_started}
 use Rattle.schedule.specs.Limits as limit
 use Rattle.schedule.specs.declared.steps.FlagStep.TheVariants.{Begin, Move, Read}
 use Rattle.flag.specs.Flag.{flag, fresh_of}
 use Rattle.flag.specs.Sound.{sound}
-use Rattle.flag.specs.Image.{imageBytes, entryBytes}
+use Rattle.flag.specs.Image.{image_bytes, entry_bytes}
 use Rattle.flag.specs.declared.state.State.{State}
 
 -- ---------- states, by the image that they have
@@ -24,8 +24,8 @@ standing v d ps = record { threads = length ps; pending = d; value = v; places =
 
 -- ---------- fresh flags, by threads and value
 
-abbrev pub freshCases : List (Start (ℕ × Bool))
-freshCases =
+abbrev pub fresh_cases : List (Start (ℕ × Bool))
+fresh_cases =
     -- 1 to 8 threads, all idle, nothing pending, the value asked for; else 5 and a state of zeros
     starts (1, false) 0 (0 ∷ 0 ∷ 0 ∷ [])
     ∷ starts (2, true) 0 (1 ∷ 0 ∷ 0 ∷ 0 ∷ [])
@@ -84,7 +84,7 @@ cases =
     ∷ refuses (standing true 0 (0 ∷ 0 ∷ [])) (Read 2) 11 (1 ∷ 0 ∷ 0 ∷ 0 ∷ [])
     ∷ refuses (standing true 0 (0 ∷ 4 ∷ [])) (Read 1) 12 (1 ∷ 0 ∷ 0 ∷ 4 ∷ [])
     -- a state that is not sound, for there is no pending 3: its tests are the same
-    ∷ refusesUnsound (standing false 3 (0 ∷ [])) (Move 0) 12 (0 ∷ 3 ∷ 0 ∷ [])
+    ∷ refuses_unsound (standing false 3 (0 ∷ [])) (Move 0) 12 (0 ∷ 3 ∷ 0 ∷ [])
     ∷ []
 
 -- ---------- whole runs of a fresh flag: the code, the place, the image at the end and the log
@@ -92,8 +92,8 @@ cases =
 abbrev two : State
 two = standing false 0 (0 ∷ 0 ∷ [])
 
-abbrev pub wholeRuns : List (Case flag)
-wholeRuns =
+abbrev pub whole_runs : List (Case flag)
+whole_runs =
     -- P11: thread 1 flips, then takes the offer of thread 0
     runs two
     (Begin 0 ∷ Move 0 ∷ Move 0 ∷ Begin 1 ∷ Move 1 ∷ Move 1 ∷ Move 1
@@ -110,18 +110,18 @@ wholeRuns =
 
 -- ---------- rows with one thing wrong in each: the tests say no to all of them, so they look at everything that a row has
 
-abbrev pub wrongCases : List (Case flag)
-wrongCases =
+abbrev pub wrong_cases : List (Case flag)
+wrong_cases =
     -- the code, the place, the image, whether it is sound, the log
     runs two (Read 0 ∷ []) 12 1 (0 ∷ 0 ∷ 0 ∷ 0 ∷ []) (3 ∷ 2 ∷ 0 ∷ 0 ∷ [])
     ∷ runs two (Read 0 ∷ []) 0 2 (0 ∷ 0 ∷ 0 ∷ 0 ∷ []) (3 ∷ 2 ∷ 0 ∷ 0 ∷ [])
     ∷ runs two (Read 0 ∷ []) 0 1 (1 ∷ 0 ∷ 0 ∷ 0 ∷ []) (3 ∷ 2 ∷ 0 ∷ 0 ∷ [])
-    ∷ refusesUnsound two (Read 2) 11 (0 ∷ 0 ∷ 0 ∷ 0 ∷ [])
+    ∷ refuses_unsound two (Read 2) 11 (0 ∷ 0 ∷ 0 ∷ 0 ∷ [])
     ∷ runs two (Read 0 ∷ []) 0 1 (0 ∷ 0 ∷ 0 ∷ 0 ∷ []) []
     ∷ []
 
-abbrev pub wrongFresh : List (Start (ℕ × Bool))
-wrongFresh =
+abbrev pub wrong_fresh : List (Start (ℕ × Bool))
+wrong_fresh =
     -- the code, the image
     starts (1, false) 5 (0 ∷ 0 ∷ 0 ∷ [])
     ∷ starts (1, false) 0 (1 ∷ 0 ∷ 0 ∷ [])
@@ -129,16 +129,16 @@ wrongFresh =
 
 -- ---------- the machine's answers are the tables'
 
-abbrev freshCode : ℕ × Bool → ℕ
-freshCode p = (fresh_of p.0 p.1).code
+abbrev fresh_code : ℕ × Bool → ℕ
+fresh_code p = (fresh_of p.0 p.1).code
 
-abbrev freshMade : ℕ × Bool → State
-freshMade p = (fresh_of p.0 p.1).state
+abbrev fresh_made : ℕ × Bool → State
+fresh_made p = (fresh_of p.0 p.1).state
 
 abbrev pub Tabled : Type 0
 Tabled =
-    (allStarted flag sound imageBytes entryBytes freshCode freshMade freshCases
-    && (allRight flag sound imageBytes entryBytes cases
-    && (allRight flag sound imageBytes entryBytes wholeRuns
-    && (noneStarted flag sound imageBytes entryBytes freshCode freshMade wrongFresh && allWrong flag sound imageBytes entryBytes wrongCases))))
+    (all_started flag sound image_bytes entry_bytes fresh_code fresh_made fresh_cases
+    && (all_right flag sound image_bytes entry_bytes cases
+    && (all_right flag sound image_bytes entry_bytes whole_runs
+    && (none_started flag sound image_bytes entry_bytes fresh_code fresh_made wrong_fresh && all_wrong flag sound image_bytes entry_bytes wrong_cases))))
     ≡ true

@@ -6,7 +6,7 @@ use Rattle.machine.specs.Replay.{after}
 use Rattle.schedule.specs.Limits as limit
 use Rattle.schedule.specs.declared.steps.FlagStep.{FlagStep}
 use Rattle.schedule.specs.declared.steps.FlagStep.TheVariants.{Begin, Move, Read}
-use Rattle.flag.specs.Flag.{flag, freshState, place}
+use Rattle.flag.specs.Flag.{flag, fresh_state, place}
 use Rattle.flag.specs.declared.state.State.{State}
 use Rattle.flag.specs.declared.entry.Entry.{Entry}
 use Rattle.flag.specs.declared.entry.Entry.TheVariants.{Flip, Saw}
@@ -19,28 +19,28 @@ happened x es = record { did = x; wrote = es }
 
 -- ---------- what is counted
 
-abbrev pub beginsOf : ℕ → FlagStep → Bool
-beginsOf k (Begin j) = eqb k j
-beginsOf k (Move j) = false
-beginsOf k (Read j) = false
+abbrev pub begins_of : ℕ → FlagStep → Bool
+begins_of k (Begin j) = eqb k j
+begins_of k (Move j) = false
+begins_of k (Read j) = false
 
-abbrev pub flipOf : ℕ → Entry → Bool
-flipOf k (Flip j) = eqb k j
-flipOf k (Saw j v) = false
+abbrev pub flip_of : ℕ → Entry → Bool
+flip_of k (Flip j) = eqb k j
+flip_of k (Saw j v) = false
 
-abbrev pub anyFlip : Entry → Bool
-anyFlip (Flip j) = true
-anyFlip (Saw j v) = false
+abbrev pub any_flip : Entry → Bool
+any_flip (Flip j) = true
+any_flip (Saw j v) = false
 
 -- the flips that thread k began, those logged for it, those logged for anyone
 abbrev pub begins : Hist → ℕ → ℕ
-begins h k = did# (beginsOf k) h
+begins h k = did# (begins_of k) h
 
 abbrev pub flips : Hist → ℕ → ℕ
-flips h k = logged# (flipOf k) h
+flips h k = logged# (flip_of k) h
 
-abbrev pub allFlips : Hist → ℕ
-allFlips h = logged# anyFlip h
+abbrev pub all_flips : Hist → ℕ
+all_flips h = logged# any_flip h
 
 -- v turned n times
 abbrev pub turned : ℕ → Bool → Bool
@@ -58,20 +58,20 @@ MayRead s₀ h k = Accepted flag (after flag s₀ (steps_of h)) (Read k)
 -- rest
 pub record Demand (s₀ : State) (v₀ : Bool) (h : Hist) : Type 0 where
   -- no thread has more flips logged than begun
-  pub none-unbegun : (k : ℕ) → flips h k ≤ begins h k
+  pub none_unbegun : (k : ℕ) → flips h k ≤ begins h k
   -- a flip is logged at most once, and never by its own begin
-  pub at-most-once : (k : ℕ) (rest during before : Hist) (es : List Entry) → h ≡ rest ++ (during ++ (happened (Begin k) es ∷ before)) → begins during k ≡ 0
+  pub at_most_once : (k : ℕ) (rest during before : Hist) (es : List Entry) → h ≡ rest ++ (during ++ (happened (Begin k) es ∷ before)) → begins during k ≡ 0
       → (es ≡ []) × (flips during k ≤ 1)
   -- a finished one, also a helped or cancelled one, exactly once, by a step after its beginning and not after its end
-  pub finished-once : (k : ℕ) (rest later during before : Hist) (es : List Entry) → h ≡ rest ++ (later ++ (during ++ (happened (Begin k) es ∷ before)))
+  pub finished_once : (k : ℕ) (rest later during before : Hist) (es : List Entry) → h ≡ rest ++ (later ++ (during ++ (happened (Begin k) es ∷ before)))
       → begins during k ≡ 0 → begins later k ≡ 0
       → MayRead s₀ (during ++ (happened (Begin k) es ∷ before)) k → (flips during k ≡ 1) × (flips later k ≡ 0)
   -- each read shows the initial value turned once for every flip logged before it
-  pub reads : (k : ℕ) (later before : Hist) (es : List Entry) → h ≡ later ++ (happened (Read k) es ∷ before) → es ≡ Saw k (turned (allFlips before) v₀) ∷ []
+  pub reads : (k : ℕ) (later before : Hist) (es : List Entry) → h ≡ later ++ (happened (Read k) es ∷ before) → es ≡ Saw k (turned (all_flips before) v₀) ∷ []
 
 -- after every accepted prefix from a fresh machine
 abbrev pub Demanded : Type 0
-Demanded = (n : ℕ) (v₀ : Bool) → 1 ≤ n → n ≤ limit.threads → (h : Hist) (s : State) → Run flag (freshState n v₀) h s → Demand (freshState n v₀) v₀ h
+Demanded = (n : ℕ) (v₀ : Bool) → 1 ≤ n → n ≤ limit.threads → (h : Hist) (s : State) → Run flag (fresh_state n v₀) h s → Demand (fresh_state n v₀) v₀ h
 
 -- and what the state owes is counted: of each thread, the flips begun are those logged and the one that it has not done yet. Places 1 to 4 owe it; 5 owes it
 -- until another has carried it out, that is until `pending` is 2; 0 and 6 owe nothing. And the value is the initial one turned once for each flip logged
@@ -79,5 +79,5 @@ abbrev pub owed : ℕ → ℕ → ℕ
 owed p d = cond (eqb p 0) 0 (cond (eqb p 6) 0 (cond (eqb p 5) (cond (eqb d 2) 0 1) 1))
 
 abbrev pub FlipsOwed : Type 0
-FlipsOwed = (n : ℕ) (v₀ : Bool) → 1 ≤ n → n ≤ limit.threads → (h : Hist) (s : State) → Run flag (freshState n v₀) h s
-    → ((k : ℕ) → begins h k ≡ flips h k + owed (place s k) s.pending) × (s.value ≡ turned (allFlips h) v₀)
+FlipsOwed = (n : ℕ) (v₀ : Bool) → 1 ≤ n → n ≤ limit.threads → (h : Hist) (s : State) → Run flag (fresh_state n v₀) h s
+    → ((k : ℕ) → begins h k ≡ flips h k + owed (place s k) s.pending) × (s.value ≡ turned (all_flips h) v₀)

@@ -16,34 +16,34 @@ use Rattle.flag.specs.declared.entry.Entry.TheVariants.{Flip, Saw}
 
 -- ---------- fresh: nobody in a flip, nothing pending; bad parameters are 5 with a state of zeros
 
-abbrev pub freshState : ℕ → Bool → State
-freshState threads value = record { threads = threads; pending = 0; value = value; places = replicate limit.threads 0 }
+abbrev pub fresh_state : ℕ → Bool → State
+fresh_state threads value = record { threads = threads; pending = 0; value = value; places = replicate limit.threads 0 }
 
 abbrev pub fresh_of : ℕ → Bool → Made
 fresh_of threads value =
-    cond (eqb threads 0) (record { state = freshState 0 false; code = code.parameter })
-    (cond (ltb limit.threads threads) (record { state = freshState 0 false; code = code.parameter })
-    (record { state = freshState threads value; code = code.accepted }))
+    cond (eqb threads 0) (record { state = fresh_state 0 false; code = code.parameter })
+    (cond (ltb limit.threads threads) (record { state = fresh_state 0 false; code = code.parameter })
+    (record { state = fresh_state threads value; code = code.accepted }))
 
 -- ---------- the tests: the thread is there, then its place
 
 abbrev pub place : State → ℕ → ℕ
 place s k = get_or s.places k 0
 
-abbrev pub insideTests : ℕ → ℕ → List Check
-insideTests threads k = need code.outside (ltb k threads) ∷ []
+abbrev pub inside_tests : ℕ → ℕ → List Check
+inside_tests threads k = need code.outside (ltb k threads) ∷ []
 
-abbrev pub idleTests : ℕ → List Check
-idleTests p = need code.phase (eqb p 0) ∷ []
+abbrev pub idle_tests : ℕ → List Check
+idle_tests p = need code.phase (eqb p 0) ∷ []
 
-abbrev pub busyTests : ℕ → List Check
-busyTests p = need code.phase (not (eqb p 0)) ∷ []
+abbrev pub busy_tests : ℕ → List Check
+busy_tests p = need code.phase (not (eqb p 0)) ∷ []
 
 -- begin and read need place 0, move another
 abbrev pub tests : State → FlagStep → List Check
-tests s (Begin k) = insideTests s.threads k ++ idleTests (place s k)
-tests s (Move k) = insideTests s.threads k ++ busyTests (place s k)
-tests s (Read k) = insideTests s.threads k ++ idleTests (place s k)
+tests s (Begin k) = inside_tests s.threads k ++ idle_tests (place s k)
+tests s (Move k) = inside_tests s.threads k ++ busy_tests (place s k)
+tests s (Read k) = inside_tests s.threads k ++ idle_tests (place s k)
 
 -- ---------- one move, from a place p with `pending` d and value v
 
@@ -62,8 +62,8 @@ went p d v =
     (cond (eqb p 6) (to 0 0 v Nobody)
     (to p d v Nobody))))))
 
-abbrev pub wentBy : State → ℕ → Went
-wentBy s k = went (place s k) s.pending s.value
+abbrev pub went_by : State → ℕ → Went
+went_by s k = went (place s k) s.pending s.value
 
 -- the first thread at 5
 abbrev pub offerer : List ℕ → ℕ
@@ -72,12 +72,12 @@ offerer (p ∷ ps) = cond (eqb p 5) 0 (suc (offerer ps))
 
 -- ---------- the state after, and what is logged
 
-abbrev pub withPlace : State → ℕ → ℕ → ℕ → Bool → State
-withPlace s k p d v = record { threads = s.threads; pending = d; value = v; places = set s.places k p }
+abbrev pub with_place : State → ℕ → ℕ → ℕ → Bool → State
+with_place s k p d v = record { threads = s.threads; pending = d; value = v; places = set s.places k p }
 
 abbrev pub next : State → FlagStep → State
-next s (Begin k) = withPlace s k 1 s.pending s.value
-next s (Move k) = withPlace s k (wentBy s k).place (wentBy s k).pending (wentBy s k).value
+next s (Begin k) = with_place s k 1 s.pending s.value
+next s (Move k) = with_place s k (went_by s k).place (went_by s k).pending (went_by s k).value
 next s (Read k) = s
 
 -- a place 1 success logs the thread at 5, then the mover; places 2 and 3 log the mover
@@ -88,7 +88,7 @@ flipped Both o k = Flip o ∷ Flip k ∷ []
 
 abbrev pub logs : State → FlagStep → List Entry
 logs s (Begin k) = []
-logs s (Move k) = flipped (wentBy s k).flips (offerer s.places) k
+logs s (Move k) = flipped (went_by s k).flips (offerer s.places) k
 logs s (Read k) = Saw k s.value ∷ []
 
 pub rising : (s : State) (x : FlagStep) → rises 1 (tests s x) ≡ true

@@ -8,14 +8,14 @@ use Rattle.flag.specs.declared.entry.Entry.{Entry}
 use Rattle.flag.specs.declared.entry.Entry.TheVariants.{Flip, Saw}
 
 -- 02 01 k (flip), 03 02 k value (read)
-abbrev pub entryBytes : Entry → List ℕ
-entryBytes (Flip k) = 2 ∷ 1 ∷ k ∷ []
-entryBytes (Saw k v) = 3 ∷ 2 ∷ k ∷ bool_byte v ∷ []
+abbrev pub entry_bytes : Entry → List ℕ
+entry_bytes (Flip k) = 2 ∷ 1 ∷ k ∷ []
+entry_bytes (Saw k v) = 3 ∷ 2 ∷ k ∷ bool_byte v ∷ []
 
 -- how many of the row are in use; in a made-up state no more than there are
-abbrev pub inUse : ℕ → ℕ
-inUse n = at_most limit.threads n
+abbrev pub in_use : ℕ → ℕ
+in_use n = at_most limit.threads n
 
 -- value, pending, places
-abbrev pub imageBytes : State → List ℕ
-imageBytes s = bool_byte s.value ∷ s.pending ∷ take (inUse s.threads) s.places
+abbrev pub image_bytes : State → List ℕ
+image_bytes s = bool_byte s.value ∷ s.pending ∷ take (in_use s.threads) s.places

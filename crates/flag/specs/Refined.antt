@@ -8,9 +8,9 @@ use Rattle.schedule.specs.Limits as limit
 use Rattle.schedule.specs.declared.steps.FlagStep.{FlagStep}
 use Rattle.schedule.specs.declared.steps.FlagStep.TheVariants.{Begin, Move, Read}
 use Rattle.flag.specs.Source as source
-use Rattle.flag.specs.Source.{Control, Memory, Resolves, Flag, Transition, Moves, Safe, control-after, memory-after, resolves}
+use Rattle.flag.specs.Source.{Control, Memory, Resolves, Flag, Transition, Moves, Safe, control_after, memory_after, resolves}
 use Rattle.flag.specs.Invariants.{FlagInv}
-use Rattle.flag.specs.Flag.{flag, freshState, place, went, next}
+use Rattle.flag.specs.Flag.{flag, fresh_state, place, went, next}
 use Rattle.flag.specs.Sound.{sound}
 use Rattle.flag.specs.declared.state.State.{State}
 use Rattle.flag.specs.declared.moves.Flips.{Flips}
@@ -21,28 +21,28 @@ use Rattle.flag.specs.declared.entry.Entry.TheVariants.{Flip, Saw}
 -- the scope's number of each place of the loop
 abbrev pub number : Control → ℕ
 number source.returned = 0
-number source.try-cancel-two-flips = 1
-number source.try-simple-flip = 2
-number source.try-simple-flip-second = 3
-number source.try-handshake = 4
-number source.try-handshake-second = 5
-number source.try-handshake-store = 6
+number source.try_cancel_two_flips = 1
+number source.try_simple_flip = 2
+number source.try_simple_flip_second = 3
+number source.try_handshake = 4
+number source.try_handshake_second = 5
+number source.try_handshake_store = 6
 
 -- and back; a number over 6 is no place
 abbrev pub control : ℕ → Control
 control p =
-    cond (eqb p 1) source.try-cancel-two-flips
-    (cond (eqb p 2) source.try-simple-flip
-    (cond (eqb p 3) source.try-simple-flip-second
-    (cond (eqb p 4) source.try-handshake
-    (cond (eqb p 5) source.try-handshake-second
-    (cond (eqb p 6) source.try-handshake-store
+    cond (eqb p 1) source.try_cancel_two_flips
+    (cond (eqb p 2) source.try_simple_flip
+    (cond (eqb p 3) source.try_simple_flip_second
+    (cond (eqb p 4) source.try_handshake
+    (cond (eqb p 5) source.try_handshake_second
+    (cond (eqb p 6) source.try_handshake_store
     source.returned)))))
 
-abbrev pub flipsOf : Resolves → Flips
-flipsOf source.none-resolved = Nobody
-flipsOf source.own-resolved = Mover
-flipsOf source.both-resolved = Both
+abbrev pub flips_of : Resolves → Flips
+flips_of source.none_resolved = Nobody
+flips_of source.own_resolved = Mover
+flips_of source.both_resolved = Both
 
 abbrev pub abs : State → Flag
 abs s =
@@ -73,10 +73,10 @@ lines a (source.read k) = line code.outside (a.threads ≤ k) ∷ line code.phas
 
 -- what the source hands out: `flip` the flips that an operation resolves, `read` the value. The offer taken is that of the thread that waits with it
 abbrev pub Resolved : Flag → ℕ → Resolves → List Entry → Type 0
-Resolved pre k source.none-resolved es = es ≡ []
-Resolved pre k source.own-resolved es = es ≡ Flip k ∷ []
-Resolved pre k source.both-resolved es =
-    (o : ℕ) × (o < pre.threads) × (pre.controls o ≡ source.try-handshake-second) × (es ≡ Flip o ∷ Flip k ∷ [])
+Resolved pre k source.none_resolved es = es ≡ []
+Resolved pre k source.own_resolved es = es ≡ Flip k ∷ []
+Resolved pre k source.both_resolved es =
+    (o : ℕ) × (o < pre.threads) × (pre.controls o ≡ source.try_handshake_second) × (es ≡ Flip o ∷ Flip k ∷ [])
 
 abbrev pub HandsOut : Flag → Transition → List Entry → Type 0
 HandsOut pre (source.begin k) es = es ≡ []
@@ -121,11 +121,11 @@ pub record Wanders (s : State) (k n : ℕ) : Type 0 where
 
 pub record Refines : Type 0 where
   -- a fresh flag is the source's `new` with the value asked for, and sound
-  pub fresh-new : (n : ℕ) (v : Bool) → abs (freshState n v) ≡ source.new n v
-  pub fresh-sound : (n : ℕ) (v : Bool) → 1 ≤ n → n ≤ limit.threads → sound (freshState n v) ≡ true
+  pub fresh_new : (n : ℕ) (v : Bool) → abs (fresh_state n v) ≡ source.new n v
+  pub fresh_sound : (n : ℕ) (v : Bool) → 1 ≤ n → n ≤ limit.threads → sound (fresh_state n v) ≡ true
   -- the test is the record, where the row is whole, as every row of the code is
-  pub sound-means : (s : State) → length s.places ≡ limit.threads → sound s ≡ true → Sound s
-  pub means-sound : (s : State) → Sound s → sound s ≡ true
+  pub sound_means : (s : State) → length s.places ≡ limit.threads → sound s ≡ true → Sound s
+  pub means_sound : (s : State) → Sound s → sound s ≡ true
   -- of a sound state: a step is accepted exactly when it is enabled, and then does what the source says and leaves a sound state
   pub upholds : Upholds helping Sound
   -- the source's own proofs, over all of its states: it starts with its invariants, and its transitions keep them
@@ -137,13 +137,13 @@ pub record Refines : Type 0 where
   pub table : (c : Control) (m : Memory) → (c ≡ source.returned → ⊥)
       → went (number c) m.pending m.value
       ≡ record {
-        place = number (control-after c m);
-        pending = (memory-after c m).pending;
-        value = (memory-after c m).value;
-        flips = flipsOf (resolves c m);
+        place = number (control_after c m);
+        pending = (memory_after c m).pending;
+        value = (memory_after c m).value;
+        flips = flips_of (resolves c m);
       }
   pub numbered : (c : Control) → control (number c) ≡ c
   -- a lone flip ends within five moves, from any sound state with the thread anywhere in its flip
   pub ends : (s : State) → Sound s → (k : ℕ) → k < s.threads → EndsWithin k 5 s
   -- and under interference no bound holds: from where thread 0 of two has just begun (P12)
-  pub unbounded : (n : ℕ) → Wanders (next (freshState 2 false) (Begin 0)) 0 n
+  pub unbounded : (n : ℕ) → Wanders (next (fresh_state 2 false) (Begin 0)) 0 n

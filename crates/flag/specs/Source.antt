@@ -9,46 +9,46 @@ use Rattle.std.specs.Bool.{beq}
 -- before which operation a thread stands; `returned` is outside of `flip`
 pub data Control : Type 0 where
   returned : Control
-  try-cancel-two-flips : Control
-  try-simple-flip : Control
-  try-simple-flip-second : Control
-  try-handshake : Control
-  try-handshake-second : Control
-  try-handshake-store : Control
+  try_cancel_two_flips : Control
+  try_simple_flip : Control
+  try_simple_flip_second : Control
+  try_handshake : Control
+  try_handshake_second : Control
+  try_handshake_store : Control
 
 pub data Operation : Type 0 where
   nothing : Operation
-  pending-exchange : ℕ → ℕ → Operation
-  value-exchange : Bool → Bool → Operation
-  pending-store : ℕ → Operation
+  pending_exchange : ℕ → ℕ → Operation
+  value_exchange : Bool → Bool → Operation
+  pending_store : ℕ → Operation
 
 abbrev pub operation : Control → Operation
 operation returned = nothing
-operation try-cancel-two-flips = pending-exchange 1 2
-operation try-simple-flip = value-exchange true false
-operation try-simple-flip-second = value-exchange false true
-operation try-handshake = pending-exchange 0 1
-operation try-handshake-second = pending-exchange 1 0
-operation try-handshake-store = pending-store 0
+operation try_cancel_two_flips = pending_exchange 1 2
+operation try_simple_flip = value_exchange true false
+operation try_simple_flip_second = value_exchange false true
+operation try_handshake = pending_exchange 0 1
+operation try_handshake_second = pending_exchange 1 0
+operation try_handshake_store = pending_store 0
 
 -- res.is_ok() and res.is_err(): a function that gives its update back goes on to the next, the last one to the loop's start
 abbrev pub is_ok : Control → Control
 is_ok returned = returned
-is_ok try-cancel-two-flips = returned
-is_ok try-simple-flip = returned
-is_ok try-simple-flip-second = returned
-is_ok try-handshake = try-handshake-second
-is_ok try-handshake-second = try-cancel-two-flips
-is_ok try-handshake-store = returned
+is_ok try_cancel_two_flips = returned
+is_ok try_simple_flip = returned
+is_ok try_simple_flip_second = returned
+is_ok try_handshake = try_handshake_second
+is_ok try_handshake_second = try_cancel_two_flips
+is_ok try_handshake_store = returned
 
 abbrev pub is_err : Control → Control
 is_err returned = returned
-is_err try-cancel-two-flips = try-simple-flip
-is_err try-simple-flip = try-simple-flip-second
-is_err try-simple-flip-second = try-handshake
-is_err try-handshake = try-cancel-two-flips
-is_err try-handshake-second = try-handshake-store
-is_err try-handshake-store = returned
+is_err try_cancel_two_flips = try_simple_flip
+is_err try_simple_flip = try_simple_flip_second
+is_err try_simple_flip_second = try_handshake
+is_err try_handshake = try_cancel_two_flips
+is_err try_handshake_second = try_handshake_store
+is_err try_handshake_store = returned
 
 -- ---------- the two atomics
 
@@ -59,35 +59,35 @@ pub record Memory : Type 0 where
 -- an exchange succeeds if it finds the first value, and then stores the second; a store always does
 abbrev pub succeeds : Operation → Memory → Bool
 succeeds nothing m = true
-succeeds (pending-exchange a b) m = eqb m.pending a
-succeeds (value-exchange a b) m = beq m.value a
-succeeds (pending-store b) m = true
+succeeds (pending_exchange a b) m = eqb m.pending a
+succeeds (value_exchange a b) m = beq m.value a
+succeeds (pending_store b) m = true
 
 abbrev pub stores : Operation → Memory → Memory
 stores nothing m = m
-stores (pending-exchange a b) m = record { value = m.value; pending = b }
-stores (value-exchange a b) m = record { value = b; pending = m.pending }
-stores (pending-store b) m = record { value = m.value; pending = b }
+stores (pending_exchange a b) m = record { value = m.value; pending = b }
+stores (value_exchange a b) m = record { value = b; pending = m.pending }
+stores (pending_store b) m = record { value = m.value; pending = b }
 
-abbrev pub memory-after : Control → Memory → Memory
-memory-after c m = cond (succeeds (operation c) m) (stores (operation c) m) m
+abbrev pub memory_after : Control → Memory → Memory
+memory_after c m = cond (succeeds (operation c) m) (stores (operation c) m) m
 
-abbrev pub control-after : Control → Memory → Control
-control-after c m = cond (succeeds (operation c) m) (is_ok c) (is_err c)
+abbrev pub control_after : Control → Memory → Control
+control_after c m = cond (succeeds (operation c) m) (is_ok c) (is_err c)
 
 -- ---------- whose update an operation resolves: try_cancel_two_flips that of the offer and its own, try_simple_flip its own
 
 pub data Resolves : Type 0 where
-  none-resolved own-resolved both-resolved : Resolves
+  none_resolved own_resolved both_resolved : Resolves
 
 abbrev pub resolves : Control → Memory → Resolves
-resolves returned m = none-resolved
-resolves try-cancel-two-flips m = cond (succeeds (operation try-cancel-two-flips) m) both-resolved none-resolved
-resolves try-simple-flip m = cond (succeeds (operation try-simple-flip) m) own-resolved none-resolved
-resolves try-simple-flip-second m = cond (succeeds (operation try-simple-flip-second) m) own-resolved none-resolved
-resolves try-handshake m = none-resolved
-resolves try-handshake-second m = none-resolved
-resolves try-handshake-store m = none-resolved
+resolves returned m = none_resolved
+resolves try_cancel_two_flips m = cond (succeeds (operation try_cancel_two_flips) m) both_resolved none_resolved
+resolves try_simple_flip m = cond (succeeds (operation try_simple_flip) m) own_resolved none_resolved
+resolves try_simple_flip_second m = cond (succeeds (operation try_simple_flip_second) m) own_resolved none_resolved
+resolves try_handshake m = none_resolved
+resolves try_handshake_second m = none_resolved
+resolves try_handshake_store m = none_resolved
 
 -- ---------- a flag and its threads
 
@@ -102,8 +102,8 @@ abbrev pub new : ℕ → Bool → Flag
 new threads init = record { memory = record { value = init; pending = 0 }; threads = threads; controls = λ k. returned }
 
 -- thread k stands before another operation, and the atomics hold m
-abbrev pub with-thread : Flag → ℕ → Control → Memory → Flag
-with-thread pre k c m = record { memory = m; threads = pre.threads; controls = λ j. cond (eqb j k) c (pre.controls j) }
+abbrev pub with_thread : Flag → ℕ → Control → Memory → Flag
+with_thread pre k c m = record { memory = m; threads = pre.threads; controls = λ j. cond (eqb j k) c (pre.controls j) }
 
 -- ---------- the transitions, each of a thread that the flag has: who is none of its threads never moves
 
@@ -111,13 +111,13 @@ with-thread pre k c m = record { memory = m; threads = pre.threads; controls = �
 pub record Begin (pre : Flag) (k : ℕ) (post : Flag) : Type 0 where
   pub thread : k < pre.threads
   pub outside : pre.controls k ≡ returned
-  pub update : post ≡ with-thread pre k try-cancel-two-flips pre.memory
+  pub update : post ≡ with_thread pre k try_cancel_two_flips pre.memory
 
 -- a thread in `flip` goes on by one operation
 pub record Move (pre : Flag) (k : ℕ) (post : Flag) : Type 0 where
   pub thread : k < pre.threads
   pub inside : pre.controls k ≡ returned → ⊥
-  pub update : post ≡ with-thread pre k (control-after (pre.controls k) pre.memory) (memory-after (pre.controls k) pre.memory)
+  pub update : post ≡ with_thread pre k (control_after (pre.controls k) pre.memory) (memory_after (pre.controls k) pre.memory)
 
 -- `read` is called
 pub record Read (pre : Flag) (k : ℕ) (post : Flag) : Type 0 where
@@ -139,5 +139,5 @@ Moves pre (read k) post = Read pre k post
 -- accepted
 abbrev pub Safe : Flag → Transition → Type 0
 Safe pre (begin k) = Unit {0}
-Safe pre (move k) = pre.controls k ≡ try-handshake-store → pre.memory.pending ≡ 2
+Safe pre (move k) = pre.controls k ≡ try_handshake_store → pre.memory.pending ≡ 2
 Safe pre (read k) = Unit {0}

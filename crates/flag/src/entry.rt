@@ -2,7 +2,7 @@
 ghost use Rattle.rows.specs.Stores.{Laid};
 ghost use Rattle.rows.specs.Walk.{pieces};
 ghost use Rattle.flag.specs.Flag.{flipped, offerer};
-ghost use Rattle.flag.specs.Image.{entryBytes};
+ghost use Rattle.flag.specs.Image.{entry_bytes};
 
 use super::moves;
 use super::moves::Flips;
@@ -18,7 +18,7 @@ pub enum Entry {
 
 // The entry's bytes at a place of the log, all or nothing; the answer is the place after them.
 pub fn put_entry(log: &mut [u8], at: usize, e: Entry) -> usize
-    ensures { Laid log.old at (entryBytes e) result log.new }
+    ensures { Laid log.old at (entry_bytes e) result log.new }
 {
     match e {
         Entry::Flip { k } => put_flip(log, at, k),
@@ -27,7 +27,7 @@ pub fn put_entry(log: &mut [u8], at: usize, e: Entry) -> usize
 }
 
 fn put_flip(log: &mut [u8], at: usize, k: u8) -> usize
-    ensures { Laid log.old at (entryBytes (Entry.Flip k)) result log.new }
+    ensures { Laid log.old at (entry_bytes (Entry.Flip k)) result log.new }
 {
     if log.len() < 3 {
         return at;
@@ -44,7 +44,7 @@ fn put_flip(log: &mut [u8], at: usize, k: u8) -> usize
 }
 
 fn put_saw(log: &mut [u8], at: usize, k: u8, value: bool) -> usize
-    ensures { Laid log.old at (entryBytes (Entry.Saw k value)) result log.new }
+    ensures { Laid log.old at (entry_bytes (Entry.Saw k value)) result log.new }
 {
     if log.len() < 4 {
         return at;
@@ -70,7 +70,7 @@ pub fn put_flips(
     places: [u8; limits::THREADS],
     k: u8,
 ) -> usize
-    ensures { Laid log.old at (pieces entryBytes (flipped flips (offerer places) k)) result log.new }
+    ensures { Laid log.old at (pieces entry_bytes (flipped flips (offerer places) k)) result log.new }
 {
     match flips {
         Flips::Nobody => at,

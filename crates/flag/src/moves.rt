@@ -3,8 +3,8 @@
 ghost use Rattle.std.specs.Prelude.{◌≡◌};
 ghost use Rattle.machine.specs.Check.{first};
 ghost use Rattle.flag.specs.Flag as definition;
-ghost use Rattle.flag.specs.Flag.{insideTests, idleTests, went};
-ghost use Rattle.flag.specs.Moved.{mayMove};
+ghost use Rattle.flag.specs.Flag.{inside_tests, idle_tests, went};
+ghost use Rattle.flag.specs.Moved.{may_move};
 
 use machine::codes;
 use schedule::limits;
@@ -29,7 +29,7 @@ pub struct Went {
 
 // k is a thread of the flag.
 pub fn inside(threads: u8, k: u8) -> u8
-    ensures { result ≡ first (insideTests threads k) }
+    ensures { result ≡ first (inside_tests threads k) }
 {
     if k < threads {
         return codes::ACCEPTED;
@@ -39,7 +39,7 @@ pub fn inside(threads: u8, k: u8) -> u8
 
 // begin and read need an idle thread.
 pub fn may_begin(place: u8) -> u8
-    ensures { result ≡ first (idleTests place) }
+    ensures { result ≡ first (idle_tests place) }
 {
     if place == 0 {
         return codes::ACCEPTED;
@@ -49,7 +49,7 @@ pub fn may_begin(place: u8) -> u8
 
 // A move needs a thread in its flip; a place that no thread has is not sound.
 pub fn may_move(place: u8) -> u8
-    ensures { result ≡ mayMove place }
+    ensures { result ≡ may_move place }
 {
     if place == 0 {
         return codes::PHASE;

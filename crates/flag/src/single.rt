@@ -2,7 +2,7 @@
 ghost use Rattle.std.specs.Prelude.{◌≡◌, true, ◌≤◌, ◌<◌, length};
 ghost use Rattle.schedule.specs.Limits as limit;
 ghost use Rattle.schedule.specs.declared.steps.FlagStep.TheVariants.{Begin, Move, Read};
-ghost use Rattle.flag.specs.Flag.{withPlace};
+ghost use Rattle.flag.specs.Flag.{with_place};
 ghost use Rattle.flag.specs.Sound as test;
 ghost use Rattle.flag.specs.Single.{Singled, Applied, quietly, answer};
 
@@ -140,7 +140,7 @@ fn read(s: State, k: u8, log: &mut [u8]) -> Answer
 // The answer with thread i where the move led it, and the entries' length.
 fn with_place(s: State, i: usize, w: Went, logged: usize) -> Answer
     requires { i < limit.threads }
-    ensures { result ≡ answer (withPlace s i w.place w.pending w.value) logged 0 }
+    ensures { result ≡ answer (with_place s i w.place w.pending w.value) logged 0 }
 {
     let mut after = s;
     after.places[i] = w.place;

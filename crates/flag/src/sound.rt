@@ -1,7 +1,7 @@
 // The test of a made-up state: one walk over the threads.
 ghost use Rattle.std.specs.Prelude.{◌≡◌, ◌+◌, ◌≤◌};
 ghost use Rattle.flag.specs.Sound as test;
-ghost use Rattle.flag.specs.Sound.{sound, placesSound, placeSound};
+ghost use Rattle.flag.specs.Sound.{sound, places_sound, place_sound};
 
 use super::state::State;
 use schedule::limits;
@@ -20,7 +20,7 @@ pub fn is_sound(s: State) -> bool
 
 // Each place is one that its thread may have, and those at 5 and at 6 agree with what is pending.
 fn places_sound(s: State) -> bool
-    ensures { result ≡ placesSound s }
+    ensures { result ≡ places_sound s }
 {
     let mut i: usize = 0;
     let mut fives: usize = 0;
@@ -40,7 +40,7 @@ fn places_sound(s: State) -> bool
 
 // A thread's place is 0 to 6; what is no thread has place 0.
 fn place_sound(threads: u8, i: usize, p: u8) -> bool
-    ensures { result ≡ placeSound threads i p }
+    ensures { result ≡ place_sound threads i p }
 {
     if i < threads as usize {
         return p <= 6;

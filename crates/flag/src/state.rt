@@ -1,8 +1,8 @@
 // The state of the flag: fresh, and its image.
 ghost use Rattle.std.specs.Prelude.{◌≡◌};
 ghost use Rattle.rows.specs.Stores.{Laid};
-ghost use Rattle.flag.specs.Flag.{freshState, fresh_of};
-ghost use Rattle.flag.specs.Image.{imageBytes, inUse};
+ghost use Rattle.flag.specs.Flag.{fresh_state, fresh_of};
+ghost use Rattle.flag.specs.Image.{image_bytes, in_use};
 
 use machine::codes;
 use schedule::limits;
@@ -37,7 +37,7 @@ pub fn fresh(threads: u8, value: bool) -> Made
 
 // No thread in a flip.
 fn idle(threads: u8, value: bool, code: u8) -> Made
-    ensures { result ≡ record { state = freshState threads value; code = code } }
+    ensures { result ≡ record { state = fresh_state threads value; code = code } }
 {
     let places = [0u8; limits::THREADS];
     let state = State {
@@ -51,7 +51,7 @@ fn idle(threads: u8, value: bool, code: u8) -> Made
 
 // The image at the front of the buffer, or nothing where it does not fit; the answer is its length.
 pub fn image(s: State, out: &mut [u8]) -> usize
-    ensures { Laid out.old 0 (imageBytes s) result out.new }
+    ensures { Laid out.old 0 (image_bytes s) result out.new }
 {
     let n = in_use(s.threads);
     if out.len() < 2 + n {
@@ -65,7 +65,7 @@ pub fn image(s: State, out: &mut [u8]) -> usize
 
 // How many of the row are in use; in a made-up state no more than there are.
 fn in_use(threads: u8) -> usize
-    ensures { result ≡ inUse threads }
+    ensures { result ≡ in_use threads }
 {
     let n = threads as usize;
     if n < limits::THREADS {

@@ -10,29 +10,29 @@ use Rattle.rows.specs.Walk.{pieces}
 use Rattle.machine.specs.Check.{first}
 use Rattle.machine.proofs.Fair.{Fair}
 use Rattle.schedule.specs.Limits as limit
-use Rattle.schedule.specs.Widths.{widths, widthsOf}
-use Rattle.schedule.specs.Language.{stepAt, size_of}
+use Rattle.schedule.specs.Widths.{widths, widths_of}
+use Rattle.schedule.specs.Language.{step_at, size_of}
 use Rattle.schedule.specs.Spelling as spelled
 use Rattle.schedule.specs.declared.steps.FlagStep.{FlagStep}
 use Rattle.schedule.specs.declared.steps.FlagStep.TheVariants.{Begin, Move, Read}
 use Rattle.schedule.proofs.Running as running
-use Rattle.schedule.proofs.Running.{Runs, Out, fair-stops, fair-quiet, fair-loud, fair-says}
-use Rattle.flag.specs.Flag.{flag, insideTests, place, wentBy, offerer, flipped, withPlace}
-use Rattle.flag.specs.Moved.{mayMove}
+use Rattle.schedule.proofs.Running.{Runs, Out, fair_stops, fair_quiet, fair_loud, fair_says}
+use Rattle.flag.specs.Flag.{flag, inside_tests, place, went_by, offerer, flipped, with_place}
+use Rattle.flag.specs.Moved.{may_move}
 use Rattle.flag.specs.Sound.{sound}
-use Rattle.flag.specs.Image.{entryBytes}
+use Rattle.flag.specs.Image.{entry_bytes}
 use Rattle.flag.specs.declared.state.State.{State}
 use Rattle.flag.specs.declared.entry.Entry.TheVariants.{Saw}
 use Rattle.flag.specs.declared.moves.Went.{Went}
-use Rattle.flag.proofs.Moved.{thread-inside}
-use Rattle.flag.proofs.Arms.{move-fair}
-use Rattle.flag.proofs.Sounds.{means-sound}
+use Rattle.flag.proofs.Moved.{thread_inside}
+use Rattle.flag.proofs.Arms.{move_fair}
+use Rattle.flag.proofs.Sounds.{means_sound}
 use Rattle.flag_run.specs.Run.{runner}
 use Rattle.flag_run.proofs.Carried.{carries}
 
 -- every step is a tag and a thread behind its length byte
 three : (x : FlagStep) → size_of spelled.flag x ≡ 3
-unfolding widthsOf widths
+unfolding widths_of widths
 three (Begin t) = refl
 three (Move t) = refl
 three (Read t) = refl
@@ -40,13 +40,13 @@ three (Read t) = refl
 module _ (f : List ℕ) (from n : ℕ) (q₀ : State) (log₀ : List ℕ) (used : ℕ) (log : List ℕ) (q : State) (at k w : ℕ)
     (g : Runs runner carries f from n q₀ log₀ used log q at k w) where
   safe : sound q ≡ true
-  safe = means-sound q g.good
+  safe = means_sound q g.good
 
   -- a thread of the flag has its entry in the row
-  pub inside-row : (t a : ℕ) → a ≡ first (insideTests q.threads t) → a ≡ 0 → t < limit.threads
-  inside-row t a e z = thread-inside q t a e safe z
+  pub inside_row : (t a : ℕ) → a ≡ first (inside_tests q.threads t) → a ≡ 0 → t < limit.threads
+  inside_row t a e z = thread_inside q t a e safe z
 
-  module _ (h : k ≡ n → ⊥) (x : FlagStep) (r : x ≡ stepAt spelled.flag f at) where
+  module _ (h : k ≡ n → ⊥) (x : FlagStep) (r : x ≡ step_at spelled.flag f at) where
     -- the place after the step is in the file
     pub ahead : Fits w64 (at + 3)
     ahead = rw (three x) at (running.ahead runner carries f from n q₀ log₀ used log q at k w g h x r x refl)
@@ -57,21 +57,21 @@ module _ (f : List ℕ) (from n : ℕ) (q₀ : State) (log₀ : List ℕ) (used 
 
     -- a step that its tests refuse
     pub refused : (v : FlagStep) → x ≡ v → (c : ℕ) → Fair flag q v c q → (c ≡ 0 → ⊥) → Out runner carries f from n q₀ log₀ used log q at k w g c
-    refused v e c = fair-stops runner carries f from n q₀ log₀ used log q at k w g h x r v e c q
+    refused v e c = fair_stops runner carries f from n q₀ log₀ used log q at k w g h x r v e c q
 
     module _ (t : ℕ) where
-      pub begin-turn : x ≡ Begin t → (q' : State) → Fair flag q (Begin t) 0 q' → Then log q' w
-      unfolding widthsOf widths
-      begin-turn e q' d = fair-quiet runner carries f from n q₀ log₀ used log q at k w g h x r (Begin t) e 0 q' d refl refl
+      pub begin_turn : x ≡ Begin t → (q' : State) → Fair flag q (Begin t) 0 q' → Then log q' w
+      unfolding widths_of widths
+      begin_turn e q' d = fair_quiet runner carries f from n q₀ log₀ used log q at k w g h x r (Begin t) e 0 q' d refl refl
 
       module _ (w' : ℕ) (log' : List ℕ) where
-        pub move-turn : x ≡ Move t → (a : ℕ) → a ≡ first (insideTests q.threads t) → a ≡ 0 → (b : ℕ) → b ≡ mayMove (place q t) → b ≡ 0
-            → (m : Went) → m ≡ wentBy q t → Laid log w (pieces entryBytes (flipped m.flips (offerer q.places) t)) w' log'
-            → Then log' (withPlace q t m.place m.pending m.value) w'
-        unfolding widthsOf widths
-        move-turn e a pa za b pb zb m p l =
-            fair-loud runner carries f from n q₀ log₀ used log q at k w g h x r (Move t) e 0 _ (move-fair q t a pa za b safe pb zb m p) refl w' log' (rw p at l)
+        pub move_turn : x ≡ Move t → (a : ℕ) → a ≡ first (inside_tests q.threads t) → a ≡ 0 → (b : ℕ) → b ≡ may_move (place q t) → b ≡ 0
+            → (m : Went) → m ≡ went_by q t → Laid log w (pieces entry_bytes (flipped m.flips (offerer q.places) t)) w' log'
+            → Then log' (with_place q t m.place m.pending m.value) w'
+        unfolding widths_of widths
+        move_turn e a pa za b pb zb m p l =
+            fair_loud runner carries f from n q₀ log₀ used log q at k w g h x r (Move t) e 0 _ (move_fair q t a pa za b safe pb zb m p) refl w' log' (rw p at l)
 
-        pub read-turn : x ≡ Read t → Fair flag q (Read t) 0 q → Laid log w (entryBytes (Saw t q.value)) w' log' → Then log' q w'
-        unfolding widthsOf widths
-        read-turn e d = fair-says runner carries f from n q₀ log₀ used log q at k w g h x r (Read t) e 0 q d refl (Saw t q.value) refl w' log'
+        pub read_turn : x ≡ Read t → Fair flag q (Read t) 0 q → Laid log w (entry_bytes (Saw t q.value)) w' log' → Then log' q w'
+        unfolding widths_of widths
+        read_turn e d = fair_says runner carries f from n q₀ log₀ used log q at k w g h x r (Read t) e 0 q d refl (Saw t q.value) refl w' log'

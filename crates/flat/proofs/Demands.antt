@@ -11,9 +11,9 @@ use lib.ListN.{length, get_or, length-append, length-map, get_or-append, get_or-
 use lib.Seq.{get_or-append_seam}
 use borrow.Author.Tests.{ltb-true, ltb-false, eqb-true, not-true}
 use Rattle.rows.specs.Walk.{bit}
-use Rattle.rows.proofs.Cases.{on, clash, tick-bit}
+use Rattle.rows.proofs.Cases.{on, clash, tick_bit}
 use Rattle.rows.proofs.Rows.{get_d_replicate}
-use Rattle.rows.proofs.Row.{row_same, row_up, row-down}
+use Rattle.rows.proofs.Row.{row_same, row_up, row_down}
 use Rattle.machine.specs.Machine.{Accepted}
 use Rattle.machine.specs.History.{event, Run, did#, AtEach, Throughout}
 use Rattle.machine.proofs.Runs.{always, throughout, at_each, suffices}
@@ -21,41 +21,41 @@ use Rattle.schedule.specs.Limits as limit
 use Rattle.schedule.specs.declared.steps.FlatStep.{FlatStep}
 use Rattle.schedule.specs.declared.steps.FlatStep.TheVariants.{ClientSend, ClientRecv, CombinerRecv, CombinerSkip, CombinerGoToResponding}
 use Rattle.schedule.specs.declared.steps.FlatStep.TheVariants.{CombinerSend, CombinerSendSkip, CombinerGoToCollecting}
-use Rattle.flat.specs.Flat.{flat, zeroClient, freshState, client, elem, next, logs, sending, receiving, gathering, answering}
-use Rattle.flat.specs.Demand.{Hist, Message, message, add, requests, answers, turn, sends, place, gatherings, recvs, toResponding, toCollecting, at_place, atTurn}
+use Rattle.flat.specs.Flat.{flat, zero_client, fresh_state, client, elem, next, logs, sending, receiving, gathering, answering}
+use Rattle.flat.specs.Demand.{Hist, Message, message, add, requests, answers, turn, sends, place, gatherings, recvs, to_responding, to_collecting, at_place, at_turn}
 use Rattle.flat.specs.Demand.{nth, At, InTurn, Turns, ClientTold, StateCounted}
 use Rattle.flat.specs.declared.state.Client.{Client}
 use Rattle.flat.specs.declared.state.State.{State}
 use Rattle.flat.specs.declared.entry.Entry.{Entry}
 use Rattle.flat.specs.declared.entry.Entry.TheVariants.{Answer}
 use Rattle.flat.proofs.Stages.{held, collecting, responding}
-use Rattle.flat.proofs.Unused.{in-clients}
-use Rattle.flat.proofs.Sounds.{fresh-stages}
-use Rattle.flat.proofs.Kept.{ids, Stage, at_rest, has-asked, was-gathered, was-answered, Listed, keep, asked-ids}
+use Rattle.flat.proofs.Unused.{in_clients}
+use Rattle.flat.proofs.Sounds.{fresh_stages}
+use Rattle.flat.proofs.Kept.{ids, Stage, at_rest, has_asked, was_gathered, was_answered, Listed, keep, asked_ids}
 
 -- ---------- the k-th of some messages
 
-nth-id : (l : List Message) (k : ℕ) → get_or (ids l) k 0 ≡ (nth l k).id
-nth-id l k = get_or-map (λ (m : Message). m.id) l k (message 0 0)
+nth_id : (l : List Message) (k : ℕ) → get_or (ids l) k 0 ≡ (nth l k).id
+nth_id l k = get_or-map (λ (m : Message). m.id) l k (message 0 0)
 
-ids-length : (l : List Message) → length (ids l) ≡ length l
-ids-length l = length-map l (λ m. m.id)
+ids_length : (l : List Message) → length (ids l) ≡ length l
+ids_length l = length-map l (λ m. m.id)
 
-add-length : (b : Bool) (m : Message) (l : List Message) → length (add b m l) ≡ length l + bit b
-add-length true m l = length-append l (m ∷ [])
-add-length false m l = omega arith
+add_length : (b : Bool) (m : Message) (l : List Message) → length (add b m l) ≡ length l + bit b
+add_length true m l = length-append l (m ∷ [])
+add_length false m l = omega arith
 
 -- one message more: those before it stay, and it is the last
-nth-front : (l : List Message) (m : Message) (k : ℕ) → k < length l → nth (l ++ m ∷ []) k ≡ nth l k
-nth-front l m k h = get_or-append l (m ∷ []) (message 0 0) k h
+nth_front : (l : List Message) (m : Message) (k : ℕ) → k < length l → nth (l ++ m ∷ []) k ≡ nth l k
+nth_front l m k h = get_or-append l (m ∷ []) (message 0 0) k h
 
 nth_last : (l : List Message) (m : Message) (k : ℕ) → k ≡ length l → nth (l ++ m ∷ []) k ≡ m
 nth_last l m k e = rw e (get_or-append_seam l m [] (message 0 0))
 
-nth-snoc : (P : ℕ → Message → Type 0) (l : List Message) (m : Message) → ((k : ℕ) → k < length l → P k (nth l k)) → P (length l) m
+nth_snoc : (P : ℕ → Message → Type 0) (l : List Message) (m : Message) → ((k : ℕ) → k < length l → P k (nth l k)) → P (length l) m
     → (k : ℕ) → k < length (l ++ m ∷ []) → P k (nth (l ++ m ∷ []) k)
-nth-snoc P l m old new k h = on (ltb k (length l))
-    (λ b. rw (nth-front l m k (ltb-true k (length l) b)) (old k (ltb-true k (length l) b)))
+nth_snoc P l m old new k h = on (ltb k (length l))
+    (λ b. rw (nth_front l m k (ltb-true k (length l) b)) (old k (ltb-true k (length l) b)))
     (λ b. let e : k ≡ length l = omega (arith, ltb-false k (length l) b, length-append l (m ∷ [])) in rw (nth_last l m k e, e) new)
 
 -- ---------- what a stage says of the client's record
@@ -63,21 +63,21 @@ nth-snoc P l m old new k h = on (ltb k (length l))
 module _ {xs ys zs : List Message} {c : Client} {F : Type 0} {G : ℕ → Type 0} where
   asker : Stage xs ys zs c F G → c.slot ≡ true → ((u : ℕ) → G u → ⊥) → c.asked ≡ true
   asker (at_rest e v w f) t n = clash (cc)
-  asker (has-asked r q ws e v x w f) t n = rw e
-  asker (was-gathered r e v w g) t n = absurd (n r g)
-  asker (was-answered r q e v w f) t n = clash (cc)
+  asker (has_asked r q ws e v x w f) t n = rw e
+  asker (was_gathered r e v w g) t n = absurd (n r g)
+  asker (was_answered r q e v w f) t n = clash (cc)
 
   holder : Stage xs ys zs c F G → (F → ⊥) → (u : ℕ) × (c ≡ held u) × G u
   holder (at_rest e v w f) n = absurd (n f)
-  holder (has-asked r q ws e v x w f) n = absurd (n f)
-  holder (was-gathered r e v w g) n = (r, e, g)
-  holder (was-answered r q e v w f) n = absurd (n f)
+  holder (has_asked r q ws e v x w f) n = absurd (n f)
+  holder (was_gathered r e v w g) n = (r, e, g)
+  holder (was_answered r q e v w f) n = absurd (n f)
 
   teller : Stage xs ys zs c F G → c.waiting ≡ true → not c.slot ≡ true → (c.told ≡ true) × (c.asked ≡ false)
   teller (at_rest e v w f) t u = clash (cc)
-  teller (has-asked r q ws e v x w f) t u = clash (cc)
-  teller (was-gathered r e v w g) t u = clash (cc)
-  teller (was-answered r q e v w f) t u = (rw e, rw e)
+  teller (has_asked r q ws e v x w f) t u = clash (cc)
+  teller (was_gathered r e v w g) t u = clash (cc)
+  teller (was_answered r q e v w f) t u = (rw e, rw e)
 
 -- its flags are counts of its messages, and what it stores is the message after the last answer
 record Bits (xs ys zs : List Message) (c : Client) : Type 0 where
@@ -90,14 +90,14 @@ record Bits (xs ys zs : List Message) (c : Client) : Type 0 where
 
 -- xs has the ids of ys and then t
 ids_more : (xs ys : List Message) (t : List ℕ) → ids xs ≡ ids ys ++ t → length xs ≡ length ys + length t
-ids_more xs ys t e = omega (arith, ap length e, ids-length xs, ids-length ys, length-append (ids ys) t)
+ids_more xs ys t e = omega (arith, ap length e, ids_length xs, ids_length ys, length-append (ids ys) t)
 
 bits : {xs ys zs : List Message} {c : Client} {F : Type 0} {G : ℕ → Type 0} → Stage xs ys zs c F G → Bits xs ys zs c
 bits {xs} {ys} {zs} (at_rest e v w f) =
     let l = ids_more xs ys [] (w ∙ sym (append-nil (ids ys))) in
     rw (e, v) (record { waits = omega (arith, l, ap length v); told = omega arith; one = omega arith; id = λ t. clash (cc); request = λ t. clash (cc); response = λ t. clash (cc) })
-bits {xs} {ys} {zs} (has-asked r q ws e v x w f) =
-    let l = ids_more xs ys (r ∷ []) (asked-ids ws ys (message r q) x w) in
+bits {xs} {ys} {zs} (has_asked r q ws e v x w f) =
+    let l = ids_more xs ys (r ∷ []) (asked_ids ws ys (message r q) x w) in
     let n : length zs ≡ length ws = omega (arith, ids_more ws ys [] (w ∙ sym (append-nil (ids ys))), ap length v) in
     let m : nth xs (length zs) ≡ message r q = rw x (nth_last ws (message r q) (length zs) n) in
     rw e
@@ -109,19 +109,19 @@ bits {xs} {ys} {zs} (has-asked r q ws e v x w f) =
       request = λ t. sym m;
       response = λ t. clash (cc);
     })
-bits {xs} {ys} {zs} (was-gathered r e v w g) =
+bits {xs} {ys} {zs} (was_gathered r e v w g) =
     let l = ids_more xs ys (r ∷ []) w in
-    let n : length zs ≡ length (ids ys) = omega (arith, ids-length ys, ap length v) in
+    let n : length zs ≡ length (ids ys) = omega (arith, ids_length ys, ap length v) in
     rw e
     (record {
       waits = omega (arith, l, ap length v);
       told = omega (arith, ap length v);
       one = omega arith;
-      id = λ t. rw (← nth-id xs (length zs), w, n) (sym (get_or-append_seam (ids ys) r [] 0));
+      id = λ t. rw (← nth_id xs (length zs), w, n) (sym (get_or-append_seam (ids ys) r [] 0));
       request = λ t. clash (cc);
       response = λ t. clash (cc);
     })
-bits {xs} {ys} {zs} (was-answered r q e v w f) =
+bits {xs} {ys} {zs} (was_answered r q e v w f) =
     let l = ids_more xs ys [] (w ∙ sym (append-nil (ids ys))) in
     let n : length ys ≡ length zs + 1 = ap length v ∙ length-append zs (message r q ∷ []) in
     let m : nth ys (length zs) ≡ message r q = rw v (nth_last zs (message r q) (length zs) refl) in
@@ -130,7 +130,7 @@ bits {xs} {ys} {zs} (was-answered r q e v w f) =
       waits = omega (arith, l, n);
       told = n;
       one = omega arith;
-      id = λ t. rw (← nth-id xs (length zs), w, nth-id ys (length zs), m) refl;
+      id = λ t. rw (← nth_id xs (length zs), w, nth_id ys (length zs), m) refl;
       request = λ t. clash (cc);
       response = λ t. sym m;
     })
@@ -144,22 +144,22 @@ Inv h s = Listed (requests h) (sends h) (answers h) (turn h) s
 abbrev pub Rounds : Hist → State → Type 0
 Rounds h s =
     (place h ≡ s.len)
-    × (did# toResponding h ≡ did# toCollecting h + bit s.responding)
-    × (s.len + s.count * did# toCollecting h ≡ did# at_place h)
-    × (s.idx + s.count * did# toCollecting h ≡ did# atTurn h)
+    × (did# to_responding h ≡ did# to_collecting h + bit s.responding)
+    × (s.len + s.count * did# to_collecting h ≡ did# at_place h)
+    × (s.idx + s.count * did# to_collecting h ≡ did# at_turn h)
 
-keep-rounds : (h : Hist) (s : State) (x : FlatStep) → Inv h s → Rounds h s → Accepted flat s x → Rounds (event flat s x ∷ h) (next s x)
-keep-rounds h s (ClientSend j rid req) i r p = r
-keep-rounds h s (ClientRecv j) i r p = r
-keep-rounds h s CombinerRecv i r p = omega (arith, r)
-keep-rounds h s CombinerSkip i r p = omega (arith, r)
-keep-rounds h s CombinerGoToResponding i r p =
+keep_rounds : (h : Hist) (s : State) (x : FlatStep) → Inv h s → Rounds h s → Accepted flat s x → Rounds (event flat s x ∷ h) (next s x)
+keep_rounds h s (ClientSend j rid req) i r p = r
+keep_rounds h s (ClientRecv j) i r p = r
+keep_rounds h s CombinerRecv i r p = omega (arith, r)
+keep_rounds h s CombinerSkip i r p = omega (arith, r)
+keep_rounds h s CombinerGoToResponding i r p =
     let o = not-true s.responding p.0 in
     omega (arith, r.0, rw o at r.1, r.2, r.3, (collecting i.mode o).0)
-keep-rounds h s (CombinerSend rid resp) i r p = omega (arith, r)
-keep-rounds h s CombinerSendSkip i r p = omega (arith, r)
-keep-rounds h s CombinerGoToCollecting i r p =
-    rw (mul-suc s.count (did# toCollecting h))
+keep_rounds h s (CombinerSend rid resp) i r p = omega (arith, r)
+keep_rounds h s CombinerSendSkip i r p = omega (arith, r)
+keep_rounds h s CombinerGoToCollecting i r p =
+    rw (mul-suc s.count (did# to_collecting h))
     (omega (arith, rw p.0 at r.1, r.2, r.3, responding i.mode p.0, eqb-true, p.1.0))
 
 -- each client's client_recvs and gatherings
@@ -167,29 +167,29 @@ abbrev pub Shares : Hist → State → Type 0
 Shares h s = (j : ℕ) → (length (answers h j) ≡ recvs h j) × (length (requests h j) ≡ gatherings h j + bit (client s j).asked)
 
 module _ (h : Hist) (s : State) (i : Inv h s) (r : Rounds h s) (k : Shares h s) where
-  keep-shares : (x : FlatStep) → Accepted flat s x → Shares (event flat s x ∷ h) (next s x)
-  keep-shares (ClientSend q rid req) p = λ j.
-      let b = in-clients s i.rows q p.0 in
+  keep_shares : (x : FlatStep) → Accepted flat s x → Shares (event flat s x ∷ h) (next s x)
+  keep_shares (ClientSend q rid req) p = λ j.
+      let b = in_clients s i.rows q p.0 in
       let o = (bits (i.stage q)).one in
-      let u = row_up (λ c. bit c.asked) s.clients q j (sending (client s q) rid req) zeroClient b (omega (arith, rw (not-true (client s q).waiting p.1.0) at o)) in
-      ((k j).0, rw (add-length (eqb j q) (message rid req) (requests h j)) (omega (arith, (k j).1, u)))
-  keep-shares (ClientRecv q) p = λ j.
-      let b = in-clients s i.rows q p.0 in
-      let u = row_same (λ c. bit c.asked) s.clients q j (receiving (client s q)) zeroClient b refl in
-      (rw (add-length (eqb j q) (message (client s q).rid (client s q).resp) (answers h j), tick-bit (eqb j q)) (omega (arith, (k j).0)), omega (arith, (k j).1, u))
-  keep-shares CombinerRecv p = λ j.
-      let b = in-clients s i.rows s.len p.1.0 in
+      let u = row_up (λ c. bit c.asked) s.clients q j (sending (client s q) rid req) zero_client b (omega (arith, rw (not-true (client s q).waiting p.1.0) at o)) in
+      ((k j).0, rw (add_length (eqb j q) (message rid req) (requests h j)) (omega (arith, (k j).1, u)))
+  keep_shares (ClientRecv q) p = λ j.
+      let b = in_clients s i.rows q p.0 in
+      let u = row_same (λ c. bit c.asked) s.clients q j (receiving (client s q)) zero_client b refl in
+      (rw (add_length (eqb j q) (message (client s q).rid (client s q).resp) (answers h j), tick_bit (eqb j q)) (omega (arith, (k j).0)), omega (arith, (k j).1, u))
+  keep_shares CombinerRecv p = λ j.
+      let b = in_clients s i.rows s.len p.1.0 in
       let a = asker (i.stage s.len) p.1.1.0 (λ u g. omega (arith, g.1)) in
-      let u = row-down (λ c. bit c.asked) s.clients s.len j (gathering (client s s.len)) zeroClient b (rw a) in
-      ((k j).0, rw (r.0, tick-bit (eqb j s.len)) (omega (arith, (k j).1, u)))
-  keep-shares CombinerSkip p = k
-  keep-shares CombinerGoToResponding p = k
-  keep-shares (CombinerSend rid resp) p = λ j.
-      let b = in-clients s i.rows s.idx p.1.0 in
-      let u = row_same (λ c. bit c.asked) s.clients s.idx j (answering (client s s.idx) resp) zeroClient b refl in
+      let u = row_down (λ c. bit c.asked) s.clients s.len j (gathering (client s s.len)) zero_client b (rw a) in
+      ((k j).0, rw (r.0, tick_bit (eqb j s.len)) (omega (arith, (k j).1, u)))
+  keep_shares CombinerSkip p = k
+  keep_shares CombinerGoToResponding p = k
+  keep_shares (CombinerSend rid resp) p = λ j.
+      let b = in_clients s i.rows s.idx p.1.0 in
+      let u = row_same (λ c. bit c.asked) s.clients s.idx j (answering (client s s.idx) resp) zero_client b refl in
       ((k j).0, omega (arith, (k j).1, u))
-  keep-shares CombinerSendSkip p = k
-  keep-shares CombinerGoToCollecting p = k
+  keep_shares CombinerSendSkip p = k
+  keep_shares CombinerGoToCollecting p = k
 
 -- ---------- from a fresh machine on
 
@@ -199,32 +199,32 @@ pub record Whole (h : Hist) (s : State) : Type 0 where
   pub shares : Shares h s
 
 module _ (n : ℕ) (b : n ≤ limit.clients) where
-  fresh : Whole [] (freshState n)
+  fresh : Whole [] (fresh_state n)
   fresh =
-      let i = fresh-stages n b in
+      let i = fresh_stages n b in
       record {
         inv =
             record {
               rows = i.rows;
               mode = i.mode;
-              stage = λ j. at_rest (get_d_replicate limit.clients j zeroClient) refl refl (λ x y. absurd (omega arith));
+              stage = λ j. at_rest (get_d_replicate limit.clients j zero_client) refl refl (λ x y. absurd (omega arith));
             };
         rounds = rw (mul-zero n) (refl, refl, refl, refl);
-        shares = λ j. (refl, rw (get_d_replicate limit.clients j zeroClient) refl);
+        shares = λ j. (refl, rw (get_d_replicate limit.clients j zero_client) refl);
       }
 
-  pub whole : (h : Hist) (s : State) → Run flat (freshState n) h s → Whole h s
-  whole h s r = always flat (freshState n) Whole fresh
+  pub whole : (h : Hist) (s : State) → Run flat (fresh_state n) h s → Whole h s
+  whole h s r = always flat (fresh_state n) Whole fresh
       (λ h s x w a. record {
         inv = keep (requests h) (sends h) (answers h) (turn h) s w.inv x a;
-        rounds = keep-rounds h s x w.inv w.rounds a;
-        shares = keep-shares h s w.inv w.rounds w.shares x a;
+        rounds = keep_rounds h s x w.inv w.rounds a;
+        shares = keep_shares h s w.inv w.rounds w.shares x a;
       }) r
 
 -- ---------- the state, told by the history
 
-pub client-told : (h : Hist) (s : State) → Whole h s → (j : ℕ) → ClientTold h j (client s j)
-client-told h s w j =
+pub client_told : (h : Hist) (s : State) → Whole h s → (j : ℕ) → ClientTold h j (client s j)
+client_told h s w j =
     let b = bits (w.inv.stage j) in
     let e = (w.shares j).0 in
     record {
@@ -246,46 +246,46 @@ count_kept s (CombinerSend rid resp) = refl
 count_kept s CombinerSendSkip = refl
 count_kept s CombinerGoToCollecting = refl
 
-pub count-run : (n : ℕ) {h : Hist} {s : State} → Run flat (freshState n) h s → s.count ≡ n
-count-run n r = always flat (freshState n) (λ h s. s.count ≡ n) refl (λ h s x e a. count_kept s x ∙ e) r
+pub count_run : (n : ℕ) {h : Hist} {s : State} → Run flat (fresh_state n) h s → s.count ≡ n
+count_run n r = always flat (fresh_state n) (λ h s. s.count ≡ n) refl (λ h s x e a. count_kept s x ∙ e) r
 
-pub state-counted : StateCounted
-state-counted n b h s r =
+pub state_counted : StateCounted
+state_counted n b h s r =
     let w = whole n b h s r in
-    let e = count-run n r in
+    let e = count_run n r in
     let q = w.rounds in (
       record {
         count = e;
         mode = q.1;
         gathered = rw e at q.2;
         cursor = rw e at q.3;
-        at-place = q.0;
-        at_turn = λ t. (responding w.inv.mode t).2;
+        place_is = q.0;
+        turn_is = λ t. (responding w.inv.mode t).2;
       },
-      client-told h s w,
+      client_told h s w,
     )
 
 -- ---------- what each step shows
 
 pub shows : (h : Hist) (s : State) (x : FlatStep) → Whole h s → Accepted flat s x → At h x (logs s x)
-shows h s (ClientSend j rid req) w p = (refl, omega (arith, rw (not-true (client s j).waiting p.1.0) at (client-told h s w j).waiting))
+shows h s (ClientSend j rid req) w p = (refl, omega (arith, rw (not-true (client s j).waiting p.1.0) at (client_told h s w j).waiting))
 shows h s (ClientRecv j) w p =
-    let c = client-told h s w j in
+    let c = client_told h s w j in
     let t = teller (w.inv.stage j) p.1.0 p.1.1.0 in
     record {
       asked = rw p.1.0 at c.waiting;
       gathered = omega (arith, rw p.1.0 at c.waiting, rw t.1 at c.asked);
       sent = rw t.0 at c.told;
-      own-id = ap (λ (m : Message). m.id) (sym (c.response t.0)) ∙ c.id p.1.0;
+      own_id = ap (λ (m : Message). m.id) (sym (c.response t.0)) ∙ c.id p.1.0;
       told = ap (λ (m : Message). Answer j m.id m.load ∷ []) (c.response t.0);
     }
 shows h s CombinerRecv w p =
     let a = asker (w.inv.stage s.len) p.1.1.0 (λ u g. omega (arith, g.1)) in
-    (refl, rw w.rounds.0 (rw a at (client-told h s w s.len).asked))
+    (refl, rw w.rounds.0 (rw a at (client_told h s w s.len).asked))
 shows h s CombinerSkip w p = refl
 shows h s CombinerGoToResponding w p = refl
 shows h s (CombinerSend rid resp) w p =
-    let c = client-told h s w s.idx in
+    let c = client_told h s w s.idx in
     let m = responding w.inv.mode p.0 in
     let g = holder (w.inv.stage s.idx) (λ f. clash (cc (f (omega arith) (omega (arith, ltb-true, p.1.0, m.0)), p.1.1.0))) in
     let d : length (sends h s.idx) ≡ recvs h s.idx = omega (arith, rw g.1 at c.told) in
@@ -300,68 +300,68 @@ shows h s CombinerGoToCollecting w p = refl
 
 -- ---------- what the steps show says that messages are in turn: of any history
 
-in-turn : {xs ys zs : List Message} {g n : ℕ} → ((k : ℕ) → k < length zs → nth zs k ≡ nth ys k) → ((k : ℕ) → k < length ys → (nth ys k).id ≡ (nth xs k).id)
+in_turn : {xs ys zs : List Message} {g n : ℕ} → ((k : ℕ) → k < length zs → nth zs k ≡ nth ys k) → ((k : ℕ) → k < length ys → (nth ys k).id ≡ (nth xs k).id)
     → (length zs ≡ n) × (n ≤ length ys) × (length ys ≤ g) × (g ≤ length xs) × (length xs ≤ suc n) → InTurn xs ys zs g n
-in-turn a m o =
+in_turn a m o =
     record {
-      own-id = λ k l. ap (λ (m : Message). m.id) (a k l) ∙ m k (omega (arith, o));
-      own-payload = a;
-      sent-for = m;
+      own_id = λ k l. ap (λ (m : Message). m.id) (a k l) ∙ m k (omega (arith, o));
+      own_payload = a;
+      sent_for = m;
       one_each = o.0;
-      after-send = o.1;
-      after-gathering = o.2;
-      after-request = o.3;
-      one-at-a-time = o.4;
+      after_send = o.1;
+      after_gathering = o.2;
+      after_request = o.3;
+      one_at_a_time = o.4;
     }
 
 module _ {xs ys zs : List Message} {g n : ℕ} (t : InTurn xs ys zs g n) where
-  asks-in-turn : (m : Message) → length xs ≡ n → InTurn (xs ++ m ∷ []) ys zs g n
-  asks-in-turn m e = in-turn t.own-payload
-      (λ k l. rw (nth-front xs m k (omega (arith, t))) (t.sent-for k l))
+  asks_in_turn : (m : Message) → length xs ≡ n → InTurn (xs ++ m ∷ []) ys zs g n
+  asks_in_turn m e = in_turn t.own_payload
+      (λ k l. rw (nth_front xs m k (omega (arith, t))) (t.sent_for k l))
       (omega (arith, t, length-append xs (m ∷ [])))
 
-  gathered-in-turn : length xs ≡ g + 1 → InTurn xs ys zs (suc g) n
-  gathered-in-turn e = in-turn t.own-payload t.sent-for (omega (arith, t))
+  gathered_in_turn : length xs ≡ g + 1 → InTurn xs ys zs (suc g) n
+  gathered_in_turn e = in_turn t.own_payload t.sent_for (omega (arith, t))
 
-  sent-in-turn : (rid resp : ℕ) → g ≡ length ys + 1 → rid ≡ (nth xs (length ys)).id → InTurn xs (ys ++ message rid resp ∷ []) zs g n
-  sent-in-turn rid resp e i =
+  sent_in_turn : (rid resp : ℕ) → g ≡ length ys + 1 → rid ≡ (nth xs (length ys)).id → InTurn xs (ys ++ message rid resp ∷ []) zs g n
+  sent_in_turn rid resp e i =
       let m = message rid resp in
-      in-turn (λ k l. rw (nth-front ys m k (omega (arith, t))) (t.own-payload k l))
-      (nth-snoc (λ k m. m.id ≡ (nth xs k).id) ys m t.sent-for i)
+      in_turn (λ k l. rw (nth_front ys m k (omega (arith, t))) (t.own_payload k l))
+      (nth_snoc (λ k m. m.id ≡ (nth xs k).id) ys m t.sent_for i)
       (omega (arith, t, length-append ys (m ∷ [])))
 
-  told-in-turn : length xs ≡ n + 1 → length ys ≡ n + 1 → let m = nth ys n in InTurn xs ys (zs ++ message m.id m.load ∷ []) g (suc n)
-  told-in-turn e f =
-      in-turn (nth-snoc (λ k m. m ≡ nth ys k) zs (nth ys n) t.own-payload (rw t.one_each refl))
-      t.sent-for
+  told_in_turn : length xs ≡ n + 1 → length ys ≡ n + 1 → let m = nth ys n in InTurn xs ys (zs ++ message m.id m.load ∷ []) g (suc n)
+  told_in_turn e f =
+      in_turn (nth_snoc (λ k m. m ≡ nth ys k) zs (nth ys n) t.own_payload (rw t.one_each refl))
+      t.sent_for
       (omega (arith, t, length-append zs (nth ys n ∷ [])))
 
-turns-step : (h : Hist) (x : FlatStep) (l : List Entry) → Turns h → At h x l → Turns (record { did = x; wrote = l } ∷ h)
-turns-step h (ClientSend q rid req) l t p = rw p.0 (λ j. on (eqb j q)
-    (λ b. rw (b, eqb-true j q b) (asks-in-turn (t q) (message rid req) p.1))
+turns_step : (h : Hist) (x : FlatStep) (l : List Entry) → Turns h → At h x l → Turns (record { did = x; wrote = l } ∷ h)
+turns_step h (ClientSend q rid req) l t p = rw p.0 (λ j. on (eqb j q)
+    (λ b. rw (b, eqb-true j q b) (asks_in_turn (t q) (message rid req) p.1))
     (λ b. rw b (t j)))
-turns-step h (ClientRecv q) l t p = rw p.told (λ j. on (eqb j q)
-    (λ b. rw (b, eqb-true j q b) (told-in-turn (t q) p.asked p.sent))
+turns_step h (ClientRecv q) l t p = rw p.told (λ j. on (eqb j q)
+    (λ b. rw (b, eqb-true j q b) (told_in_turn (t q) p.asked p.sent))
     (λ b. rw b (t j)))
-turns-step h CombinerRecv l t p = rw p.0 (λ j. on (eqb j (place h))
-    (λ b. rw (b, eqb-true j (place h) b) (gathered-in-turn (t (place h)) p.1))
+turns_step h CombinerRecv l t p = rw p.0 (λ j. on (eqb j (place h))
+    (λ b. rw (b, eqb-true j (place h) b) (gathered_in_turn (t (place h)) p.1))
     (λ b. rw b (t j)))
-turns-step h CombinerSkip l t p = rw p t
-turns-step h CombinerGoToResponding l t p = rw p t
-turns-step h (CombinerSend rid resp) l t p = rw p.quiet (λ j. on (eqb j (turn h))
-    (λ b. rw (b, eqb-true j (turn h) b) (sent-in-turn (t (turn h)) rid resp p.gathered p.meant))
+turns_step h CombinerSkip l t p = rw p t
+turns_step h CombinerGoToResponding l t p = rw p t
+turns_step h (CombinerSend rid resp) l t p = rw p.quiet (λ j. on (eqb j (turn h))
+    (λ b. rw (b, eqb-true j (turn h) b) (sent_in_turn (t (turn h)) rid resp p.gathered p.meant))
     (λ b. rw b (t j)))
-turns-step h CombinerSendSkip l t p = rw p t
-turns-step h CombinerGoToCollecting l t p = rw p t
+turns_step h CombinerSendSkip l t p = rw p t
+turns_step h CombinerGoToCollecting l t p = rw p t
 
-pub steps-suffice : (h : Hist) → AtEach At h → Turns h
-steps-suffice = suffices At Turns (λ j. in-turn (λ k l. absurd (omega arith)) (λ k l. absurd (omega arith)) (omega arith)) turns-step
+pub steps_suffice : (h : Hist) → AtEach At h → Turns h
+steps_suffice = suffices At Turns (λ j. in_turn (λ k l. absurd (omega arith)) (λ k l. absurd (omega arith)) (omega arith)) turns_step
 
 -- ---------- after each part of a history from a fresh machine
 
 module _ (n : ℕ) (b : n ≤ limit.clients) where
-  steps : (h : Hist) (s : State) → Run flat (freshState n) h s → AtEach At h
-  steps h s r = at_each flat (freshState n) Whole At (whole n b) shows r
+  steps : (h : Hist) (s : State) → Run flat (fresh_state n) h s → AtEach At h
+  steps h s r = at_each flat (fresh_state n) Whole At (whole n b) shows r
 
-  pub turns-throughout : {h : Hist} {s : State} → Run flat (freshState n) h s → Throughout Turns h
-  turns-throughout r = throughout flat (freshState n) Turns (λ h s r. steps-suffice h (steps h s r)) r
+  pub turns_throughout : {h : Hist} {s : State} → Run flat (fresh_state n) h s → Throughout Turns h
+  turns_throughout r = throughout flat (fresh_state n) Turns (λ h s r. steps_suffice h (steps h s r)) r

@@ -11,57 +11,57 @@ use Rattle.schedule.specs.declared.steps.FlatStep.TheVariants.{ClientSend, Clien
 use Rattle.flat.proofs.Inductive as source-own
 use mathlib.Core.Path.{◌≡◌, refl}
 use Rattle.flat.specs.Invariants.{Invariants}
-use Rattle.flat.specs.Flat.{flat, freshState}
-use Rattle.flat.specs.Refined.{Sound, label, flatCombine, Refines}
+use Rattle.flat.specs.Flat.{flat, fresh_state}
+use Rattle.flat.specs.Refined.{Sound, label, flat_combine, Refines}
 use Rattle.flat.specs.Demand.{Hist}
 use Rattle.flat.specs.declared.state.State.{State}
-use Rattle.flat.proofs.Sounds.{sound-means, means-sound, fresh-initialize, fresh-means, fresh-sound}
-use Rattle.flat.proofs.Kept.{accepted-sound}
+use Rattle.flat.proofs.Sounds.{sound_means, means_sound, fresh_initialize, fresh_means, fresh_sound}
+use Rattle.flat.proofs.Kept.{accepted_sound}
 use Rattle.flat.proofs.Lines.{goes, clear, tells}
-use Rattle.flat.proofs.Told.{abs-tells}
-use Rattle.flat.proofs.Posts.{accepted-moves, moves-one, accepted-logs, hands-one}
+use Rattle.flat.proofs.Told.{abs_tells}
+use Rattle.flat.proofs.Posts.{accepted_moves, moves_one, accepted_logs, hands_one}
 
 -- every transition of the source is some step's
 onto : (y : Transition) → (x : FlatStep) × (label x ≡ y)
-onto (source.client-send j request) = (ClientSend j request.rid request.req, refl)
-onto (source.client-recv j) = (ClientRecv j, refl)
-onto source.combiner-recv = (CombinerRecv, refl)
-onto source.combiner-skip = (CombinerSkip, refl)
-onto source.combiner-go-to-responding = (CombinerGoToResponding, refl)
-onto (source.combiner-send response) = (CombinerSend response.rid response.resp, refl)
-onto source.combiner-send-skip = (CombinerSendSkip, refl)
-onto source.combiner-go-to-collecting = (CombinerGoToCollecting, refl)
+onto (source.client_send j request) = (ClientSend j request.rid request.req, refl)
+onto (source.client_recv j) = (ClientRecv j, refl)
+onto source.combiner_recv = (CombinerRecv, refl)
+onto source.combiner_skip = (CombinerSkip, refl)
+onto source.combiner_go_to_responding = (CombinerGoToResponding, refl)
+onto (source.combiner_send response) = (CombinerSend response.rid response.resp, refl)
+onto source.combiner_send_skip = (CombinerSendSkip, refl)
+onto source.combiner_go_to_collecting = (CombinerGoToCollecting, refl)
 
-owed : Owed flatCombine Invariants Sound
+owed : Owed flat_combine Invariants Sound
 owed =
     record {
       onto = onto;
       inductive = record { kept = source-own.inductive; safe = source-own.safe };
       goes = goes;
       clear = λ y a to i v b. clear y a to v;
-      moves-one = λ y a p q i v. moves-one y a p q (source-own.safe y a p i v) v;
-      hands-one = λ y a es fs i. hands-one y a es fs;
+      moves_one = λ y a p q i v. moves_one y a p q (source-own.safe y a p i v) v;
+      hands_one = λ y a es fs i. hands_one y a es fs;
       inv = λ s h. h.inv;
       tells = tells;
-      moves = accepted-moves;
-      logs = accepted-logs;
-      good = accepted-sound;
-      abs-tells = abs-tells;
+      moves = accepted_moves;
+      logs = accepted_logs;
+      good = accepted_sound;
+      abs_tells = abs_tells;
     }
 
 pub refines : Refines
 refines =
     record {
-      fresh-initialize = λ n b. fresh-initialize n;
-      fresh-sound = fresh-sound;
-      sound-means = sound-means;
-      means-sound = means-sound;
-      upholds = upholds flatCombine Invariants Sound owed;
-      initial = source-own.initialize-inductive;
+      fresh_initialize = λ n b. fresh_initialize n;
+      fresh_sound = fresh_sound;
+      sound_means = sound_means;
+      means_sound = means_sound;
+      upholds = upholds flat_combine Invariants Sound owed;
+      initial = source-own.initialize_inductive;
       inductive = owed.inductive;
-      complete = complete flatCombine Invariants Sound owed;
+      complete = complete flat_combine Invariants Sound owed;
     }
 
-pub every-prefix-sound : (n : ℕ) → n ≤ limit.clients → {h : Hist} {s : State} → Run flat (freshState n) h s → Sound s
-every-prefix-sound n b r =
-    always flat (freshState n) (λ h s. Sound s) (fresh-means n b) (λ h s x i a. accepted-sound s x i a) r
+pub every_prefix_sound : (n : ℕ) → n ≤ limit.clients → {h : Hist} {s : State} → Run flat (fresh_state n) h s → Sound s
+every_prefix_sound n b r =
+    always flat (fresh_state n) (λ h s. Sound s) (fresh_means n b) (λ h s x i a. accepted_sound s x i a) r

@@ -11,7 +11,7 @@ use lib.ListN.{length, get_or}
 use borrow.Author.Tests.{ltb-true, ltb-false}
 use Rattle.rows.proofs.Cases.{on, clash}
 use Rattle.schedule.specs.Limits as limit
-use Rattle.flat.specs.Flat.{zeroClient, zeroElem, client, elem}
+use Rattle.flat.specs.Flat.{zero_client, zero_elem, client, elem}
 use Rattle.flat.specs.declared.state.Client.{Client}
 use Rattle.flat.specs.declared.state.Elem.{Elem}
 use Rattle.flat.specs.declared.state.State.{State}
@@ -40,10 +40,10 @@ HasAt j len idx e rid = (idx ≤ j) × (j < len) × (e ≡ holding rid)
 
 -- a client, what holds while the combiner has nothing of it, and what holds while it has this id
 pub data Stand (c : Client) (F : Type 0) (G : ℕ → Type 0) : Type 0 where
-  rests : c ≡ zeroClient → F → Stand c F G
+  rests : c ≡ zero_client → F → Stand c F G
   asks : (rid req : ℕ) → c ≡ asking rid req → F → Stand c F G
   is_held : (rid : ℕ) → c ≡ held rid → G rid → Stand c F G
-  isTold : (rid resp : ℕ) → c ≡ answered rid resp → F → Stand c F G
+  is_told : (rid resp : ℕ) → c ≡ answered rid resp → F → Stand c F G
 
 -- the combiner: whether it responds, its cursor, what it gathered, the clients there are, and whose turn the history says it is
 pub data Mode (responding : Bool) (idx len count turn : ℕ) : Type 0 where
@@ -61,12 +61,12 @@ Has s j rid = HasAt j s.len s.idx (elem s j) rid
 -- the rows are whole, and unused entries zero: of the clients those that are not there, of the elements those not gathered and the ids of empty ones
 pub record ClientRow (count : ℕ) (cs : List Client) : Type 0 where
   pub whole : length cs ≡ limit.clients
-  pub unused : (j : ℕ) → count ≤ j → get_or cs j zeroClient ≡ zeroClient
+  pub unused : (j : ℕ) → count ≤ j → get_or cs j zero_client ≡ zero_client
 
 pub record ElemRow (len : ℕ) (es : List Elem) : Type 0 where
   pub whole : length es ≡ limit.clients
-  pub unused : (j : ℕ) → len ≤ j → get_or es j zeroElem ≡ zeroElem
-  pub no-id : (j : ℕ) → (get_or es j zeroElem).present ≡ false → (get_or es j zeroElem).rid ≡ 0
+  pub unused : (j : ℕ) → len ≤ j → get_or es j zero_elem ≡ zero_elem
+  pub no_id : (j : ℕ) → (get_or es j zero_elem).present ≡ false → (get_or es j zero_elem).rid ≡ 0
 
 pub record Rows (s : State) : Type 0 where
   pub few : s.count ≤ limit.clients
@@ -90,9 +90,9 @@ module _ {m : Bool} {i l n c : ℕ} where
   responding (responds e l b t') t = (l, b, t')
 
   -- in both modes no more was gathered than there are clients
-  pub gathered-few : Mode m i l n c → l ≤ n
-  gathered-few (collects e z b) = b
-  gathered-few (responds e l b t) = omega arith
+  pub gathered_few : Mode m i l n c → l ≤ n
+  gathered_few (collects e z b) = b
+  gathered_few (responds e l b t) = omega arith
 
   -- the cursor says whose turn it is
   pub own_turn : Mode m i l n c → Mode m i l n i
@@ -101,20 +101,20 @@ module _ {m : Bool} {i l n c : ℕ} where
 
 module _ (s : State) where
   -- what was gathered lies in its row
-  pub gathered-room : Stages s → s.len ≤ length s.elems
-  gathered-room i = omega (arith, gathered-few i.mode, i.rows.few, i.rows.elems.whole)
+  pub gathered_room : Stages s → s.len ≤ length s.elems
+  gathered_room i = omega (arith, gathered_few i.mode, i.rows.few, i.rows.elems.whole)
 
   -- who waits is a client that is there
-  pub waits-inside : ((j : ℕ) → s.count ≤ j → client s j ≡ zeroClient) → (j : ℕ) → (client s j).waiting ≡ true → j < s.count
-  waits-inside u j w = on (ltb j s.count)
+  pub waits_inside : ((j : ℕ) → s.count ≤ j → client s j ≡ zero_client) → (j : ℕ) → (client s j).waiting ≡ true → j < s.count
+  waits_inside u j w = on (ltb j s.count)
       (λ b. ltb-true j s.count b)
       (λ b. clash (cc (u j (ltb-false j s.count b))))
 
 -- ---------- two records are equal by their fields
 
-pub same-elem : {e : Elem} {r : ℕ} {p : Bool} → e.rid ≡ r → e.present ≡ p → e ≡ record { rid = r; present = p }
-same-elem a b = λ i. record { rid = a i; present = b i }
+pub same_elem : {e : Elem} {r : ℕ} {p : Bool} → e.rid ≡ r → e.present ≡ p → e ≡ record { rid = r; present = p }
+same_elem a b = λ i. record { rid = a i; present = b i }
 
-pub same-client : {c d : Client} → c.rid ≡ d.rid → c.req ≡ d.req → c.resp ≡ d.resp → c.waiting ≡ d.waiting → c.asked ≡ d.asked → c.told ≡ d.told
+pub same_client : {c d : Client} → c.rid ≡ d.rid → c.req ≡ d.req → c.resp ≡ d.resp → c.waiting ≡ d.waiting → c.asked ≡ d.asked → c.told ≡ d.told
     → c.slot ≡ d.slot → c ≡ d
-same-client a b e w k t s = λ i. record { rid = a i; req = b i; resp = e i; waiting = w i; asked = k i; told = t i; slot = s i }
+same_client a b e w k t s = λ i. record { rid = a i; req = b i; resp = e i; waiting = w i; asked = k i; told = t i; slot = s i }

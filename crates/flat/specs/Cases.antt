@@ -1,13 +1,13 @@
 -- Small cases of each step, written from the scope ("Codes", "Flat combiner", "Log and image", P1, P3 to P6) and not from specs/Flat.antt: for each step
 -- one that is accepted, and for each of its tests one that this test refuses. Proved by one claim, in proofs/Tabled.antt. Assumes nothing.
 use Rattle.std.specs.Prelude.{ℕ, ◌≡◌, Bool, true, false, ◌&&◌, List, [], ◌∷◌, ◌++◌, length, take, replicate}
-use Rattle.machine.specs.Table.{Case, runs, does, refuses, Start, starts, allRight, allWrong, allStarted, noneStarted}
+use Rattle.machine.specs.Table.{Case, runs, does, refuses, Start, starts, all_right, all_wrong, all_started, none_started}
 use Rattle.schedule.specs.Limits as limit
 use Rattle.schedule.specs.declared.steps.FlatStep.TheVariants.{ClientSend, ClientRecv, CombinerRecv, CombinerSkip, CombinerGoToResponding}
 use Rattle.schedule.specs.declared.steps.FlatStep.TheVariants.{CombinerSend, CombinerSendSkip, CombinerGoToCollecting}
 use Rattle.flat.specs.Flat.{flat, fresh_of}
 use Rattle.flat.specs.Sound.{sound}
-use Rattle.flat.specs.Image.{imageBytes, entryBytes}
+use Rattle.flat.specs.Image.{image_bytes, entry_bytes}
 use Rattle.flat.specs.declared.state.Client.{Client}
 use Rattle.flat.specs.declared.state.Elem.{Elem}
 use Rattle.flat.specs.declared.state.State.{State}
@@ -48,11 +48,11 @@ collecting cs es = standing cs es 0 false
 abbrev responding : List Client → List Elem → ℕ → State
 responding cs es idx = standing cs es idx true
 
-abbrev freshCode : ℕ → ℕ
-freshCode n = (fresh_of n).code
+abbrev fresh_code : ℕ → ℕ
+fresh_code n = (fresh_of n).code
 
-abbrev freshMade : ℕ → State
-freshMade n = (fresh_of n).state
+abbrev fresh_made : ℕ → State
+fresh_made n = (fresh_of n).state
 
 -- ---------- the bytes: of small numbers, and of 01020304 and 05060708
 
@@ -62,17 +62,17 @@ zeros n = replicate n 0
 abbrev four : ℕ → List ℕ
 four n = 0 ∷ 0 ∷ 0 ∷ n ∷ []
 
-abbrev idleBytes : List ℕ
-idleBytes = zeros 23
+abbrev idle_bytes : List ℕ
+idle_bytes = zeros 23
 
-abbrev askBytes : ℕ → ℕ → List ℕ
-askBytes rid req = 1 ∷ four rid ++ (1 ∷ four rid ++ (four req ++ zeros 9))
+abbrev ask_bytes : ℕ → ℕ → List ℕ
+ask_bytes rid req = 1 ∷ four rid ++ (1 ∷ four rid ++ (four req ++ zeros 9))
 
-abbrev gatheredBytes : ℕ → List ℕ
-gatheredBytes rid = 1 ∷ four rid ++ zeros 18
+abbrev gathered_bytes : ℕ → List ℕ
+gathered_bytes rid = 1 ∷ four rid ++ zeros 18
 
-abbrev answeredBytes : ℕ → ℕ → List ℕ
-answeredBytes rid resp = 1 ∷ four rid ++ (zeros 9 ++ (1 ∷ four rid ++ four resp))
+abbrev answered_bytes : ℕ → ℕ → List ℕ
+answered_bytes rid resp = 1 ∷ four rid ++ (zeros 9 ++ (1 ∷ four rid ++ four resp))
 
 abbrev wide : ℕ
 wide = 16909060
@@ -80,124 +80,124 @@ wide = 16909060
 abbrev wider : ℕ
 wider = 84281096
 
-abbrev wideBytes : List ℕ
-wideBytes = 1 ∷ 2 ∷ 3 ∷ 4 ∷ []
+abbrev wide_bytes : List ℕ
+wide_bytes = 1 ∷ 2 ∷ 3 ∷ 4 ∷ []
 
-abbrev widerBytes : List ℕ
-widerBytes = 5 ∷ 6 ∷ 7 ∷ 8 ∷ []
+abbrev wider_bytes : List ℕ
+wider_bytes = 5 ∷ 6 ∷ 7 ∷ 8 ∷ []
 
 -- ---------- the table
 
-abbrev pub clientSends : List (Case flat)
-clientSends =
+abbrev pub client_sends : List (Case flat)
+client_sends =
     -- client_send stores the request and sets the slot; it needs a client that is there, and that idle
     does (collecting (idle ∷ []) []) (ClientSend 0 wide wider)
-    (1 ∷ wideBytes ++ (1 ∷ wideBytes ++ (widerBytes ++ (zeros 9 ++ (0 ∷ 1 ∷ 0 ∷ 0 ∷ 0 ∷ []))))) []
-    ∷ does (collecting (idle ∷ idle ∷ []) []) (ClientSend 1 7 42) (idleBytes ++ (askBytes 7 42 ++ (0 ∷ 2 ∷ 0 ∷ 0 ∷ 0 ∷ []))) []
-    ∷ does (collecting (replicate 16 idle) []) (ClientSend 15 0 0) (zeros 345 ++ (askBytes 0 0 ++ (128 ∷ 0 ∷ 0 ∷ 0 ∷ 0 ∷ []))) []
+    (1 ∷ wide_bytes ++ (1 ∷ wide_bytes ++ (wider_bytes ++ (zeros 9 ++ (0 ∷ 1 ∷ 0 ∷ 0 ∷ 0 ∷ []))))) []
+    ∷ does (collecting (idle ∷ idle ∷ []) []) (ClientSend 1 7 42) (idle_bytes ++ (ask_bytes 7 42 ++ (0 ∷ 2 ∷ 0 ∷ 0 ∷ 0 ∷ []))) []
+    ∷ does (collecting (replicate 16 idle) []) (ClientSend 15 0 0) (zeros 345 ++ (ask_bytes 0 0 ++ (128 ∷ 0 ∷ 0 ∷ 0 ∷ 0 ∷ []))) []
     -- ids may repeat; and the combiner may be anywhere
-    ∷ does (collecting (asks 7 42 ∷ idle ∷ []) []) (ClientSend 1 7 42) (askBytes 7 42 ++ (askBytes 7 42 ++ (0 ∷ 3 ∷ 0 ∷ 0 ∷ 0 ∷ []))) []
-    ∷ does (responding (idle ∷ []) (nothing ∷ []) 1) (ClientSend 0 7 42) (askBytes 7 42 ++ (0 ∷ 1 ∷ 1 ∷ 1 ∷ 1 ∷ zeros 5)) []
+    ∷ does (collecting (asks 7 42 ∷ idle ∷ []) []) (ClientSend 1 7 42) (ask_bytes 7 42 ++ (ask_bytes 7 42 ++ (0 ∷ 3 ∷ 0 ∷ 0 ∷ 0 ∷ []))) []
+    ∷ does (responding (idle ∷ []) (nothing ∷ []) 1) (ClientSend 0 7 42) (ask_bytes 7 42 ++ (0 ∷ 1 ∷ 1 ∷ 1 ∷ 1 ∷ zeros 5)) []
     ∷ refuses (collecting [] []) (ClientSend 0 7 42) 11 (zeros 5)
     ∷ refuses (collecting (idle ∷ []) []) (ClientSend 1 7 42) 11 (zeros 28)
     ∷ refuses (collecting (replicate 16 idle) []) (ClientSend 16 7 42) 11 (zeros 373)
-    ∷ refuses (collecting (asks 7 42 ∷ []) []) (ClientSend 0 8 43) 12 (askBytes 7 42 ++ (0 ∷ 1 ∷ zeros 3))
-    ∷ refuses (collecting (gathered 7 ∷ []) (holds 7 ∷ [])) (ClientSend 0 8 43) 12 (gatheredBytes 7 ++ (0 ∷ 1 ∷ 0 ∷ 0 ∷ 1 ∷ 1 ∷ four 7))
-    ∷ refuses (collecting (answered 7 99 ∷ []) []) (ClientSend 0 8 43) 12 (answeredBytes 7 99 ++ zeros 5)
+    ∷ refuses (collecting (asks 7 42 ∷ []) []) (ClientSend 0 8 43) 12 (ask_bytes 7 42 ++ (0 ∷ 1 ∷ zeros 3))
+    ∷ refuses (collecting (gathered 7 ∷ []) (holds 7 ∷ [])) (ClientSend 0 8 43) 12 (gathered_bytes 7 ++ (0 ∷ 1 ∷ 0 ∷ 0 ∷ 1 ∷ 1 ∷ four 7))
+    ∷ refuses (collecting (answered 7 99 ∷ []) []) (ClientSend 0 8 43) 12 (answered_bytes 7 99 ++ zeros 5)
     ∷ []
 
-abbrev pub clientRecvs : List (Case flat)
-clientRecvs =
+abbrev pub client_recvs : List (Case flat)
+client_recvs =
     -- client_recv empties the response and logs client, rid, resp; it needs a client that is there, that waits, and its slot clear (14: P5)
-    does (collecting (answered wide wider ∷ []) []) (ClientRecv 0) (zeros 28) (9 ∷ 0 ∷ wideBytes ++ widerBytes)
-    ∷ does (collecting (asks 7 42 ∷ answered 7 99 ∷ []) []) (ClientRecv 1) (askBytes 7 42 ++ (idleBytes ++ (0 ∷ 1 ∷ zeros 3))) (9 ∷ 1 ∷ four 7 ++ four 99)
+    does (collecting (answered wide wider ∷ []) []) (ClientRecv 0) (zeros 28) (9 ∷ 0 ∷ wide_bytes ++ wider_bytes)
+    ∷ does (collecting (asks 7 42 ∷ answered 7 99 ∷ []) []) (ClientRecv 1) (ask_bytes 7 42 ++ (idle_bytes ++ (0 ∷ 1 ∷ zeros 3))) (9 ∷ 1 ∷ four 7 ++ four 99)
     ∷ does (responding (answered 7 99 ∷ []) (holds 7 ∷ []) 1) (ClientRecv 0) (zeros 25 ++ (1 ∷ 1 ∷ 1 ∷ 1 ∷ four 7)) (9 ∷ 0 ∷ four 7 ++ four 99)
     ∷ refuses (collecting [] []) (ClientRecv 0) 11 (zeros 5)
-    ∷ refuses (collecting (answered 7 99 ∷ []) []) (ClientRecv 1) 11 (answeredBytes 7 99 ++ zeros 5)
+    ∷ refuses (collecting (answered 7 99 ∷ []) []) (ClientRecv 1) 11 (answered_bytes 7 99 ++ zeros 5)
     ∷ refuses (collecting (replicate 16 idle) []) (ClientRecv 16) 11 (zeros 373)
     ∷ refuses (collecting (idle ∷ []) []) (ClientRecv 0) 12 (zeros 28)
-    ∷ refuses (collecting (asks 7 42 ∷ []) []) (ClientRecv 0) 14 (askBytes 7 42 ++ (0 ∷ 1 ∷ zeros 3))
-    ∷ refuses (collecting (gathered 7 ∷ []) (holds 7 ∷ [])) (ClientRecv 0) 14 (gatheredBytes 7 ++ (0 ∷ 1 ∷ 0 ∷ 0 ∷ 1 ∷ 1 ∷ four 7))
+    ∷ refuses (collecting (asks 7 42 ∷ []) []) (ClientRecv 0) 14 (ask_bytes 7 42 ++ (0 ∷ 1 ∷ zeros 3))
+    ∷ refuses (collecting (gathered 7 ∷ []) (holds 7 ∷ [])) (ClientRecv 0) 14 (gathered_bytes 7 ++ (0 ∷ 1 ∷ 0 ∷ 0 ∷ 1 ∷ 1 ∷ four 7))
     ∷ []
 
-abbrev pub combinerGathers : List (Case flat)
-combinerGathers =
+abbrev pub combiner_gathers : List (Case flat)
+combiner_gathers =
     -- combiner_recv takes the request, leaves the slot set and keeps the id; it needs to collect, a client left, and its slot set
-    does (collecting (asks wide wider ∷ []) []) CombinerRecv (1 ∷ wideBytes ++ (zeros 18 ++ (0 ∷ 1 ∷ 0 ∷ 0 ∷ 1 ∷ 1 ∷ wideBytes))) []
-    ∷ does (collecting (asks 7 42 ∷ asks 8 43 ∷ []) (nothing ∷ [])) CombinerRecv (askBytes 7 42 ++ (gatheredBytes 8 ++ (0 ∷ 3 ∷ 0 ∷ 0 ∷ 2 ∷ zeros 5 ++ (1 ∷ four 8)))) []
-    ∷ does (collecting (idle ∷ asks 8 43 ∷ []) (nothing ∷ [])) CombinerRecv (idleBytes ++ (gatheredBytes 8 ++ (0 ∷ 2 ∷ 0 ∷ 0 ∷ 2 ∷ zeros 5 ++ (1 ∷ four 8)))) []
-    ∷ refuses (responding (asks 7 42 ∷ []) (nothing ∷ []) 0) CombinerRecv 12 (askBytes 7 42 ++ (0 ∷ 1 ∷ 1 ∷ 0 ∷ 1 ∷ zeros 5))
+    does (collecting (asks wide wider ∷ []) []) CombinerRecv (1 ∷ wide_bytes ++ (zeros 18 ++ (0 ∷ 1 ∷ 0 ∷ 0 ∷ 1 ∷ 1 ∷ wide_bytes))) []
+    ∷ does (collecting (asks 7 42 ∷ asks 8 43 ∷ []) (nothing ∷ [])) CombinerRecv (ask_bytes 7 42 ++ (gathered_bytes 8 ++ (0 ∷ 3 ∷ 0 ∷ 0 ∷ 2 ∷ zeros 5 ++ (1 ∷ four 8)))) []
+    ∷ does (collecting (idle ∷ asks 8 43 ∷ []) (nothing ∷ [])) CombinerRecv (idle_bytes ++ (gathered_bytes 8 ++ (0 ∷ 2 ∷ 0 ∷ 0 ∷ 2 ∷ zeros 5 ++ (1 ∷ four 8)))) []
+    ∷ refuses (responding (asks 7 42 ∷ []) (nothing ∷ []) 0) CombinerRecv 12 (ask_bytes 7 42 ++ (0 ∷ 1 ∷ 1 ∷ 0 ∷ 1 ∷ zeros 5))
     ∷ refuses (collecting [] []) CombinerRecv 13 (zeros 5)
-    ∷ refuses (collecting (asks 7 42 ∷ []) (nothing ∷ [])) CombinerRecv 13 (askBytes 7 42 ++ (0 ∷ 1 ∷ 0 ∷ 0 ∷ 1 ∷ zeros 5))
+    ∷ refuses (collecting (asks 7 42 ∷ []) (nothing ∷ [])) CombinerRecv 13 (ask_bytes 7 42 ++ (0 ∷ 1 ∷ 0 ∷ 0 ∷ 1 ∷ zeros 5))
     ∷ refuses (collecting (idle ∷ []) []) CombinerRecv 14 (zeros 28)
-    ∷ refuses (collecting (answered 7 99 ∷ []) []) CombinerRecv 14 (answeredBytes 7 99 ++ zeros 5)
+    ∷ refuses (collecting (answered 7 99 ∷ []) []) CombinerRecv 14 (answered_bytes 7 99 ++ zeros 5)
     -- combiner_skip keeps nothing, also with the slot set (P4); it needs to collect, and a client left
     ∷ does (collecting (idle ∷ []) []) CombinerSkip (zeros 27 ++ (1 ∷ zeros 5)) []
-    ∷ does (collecting (asks 7 42 ∷ []) []) CombinerSkip (askBytes 7 42 ++ (0 ∷ 1 ∷ 0 ∷ 0 ∷ 1 ∷ zeros 5)) []
+    ∷ does (collecting (asks 7 42 ∷ []) []) CombinerSkip (ask_bytes 7 42 ++ (0 ∷ 1 ∷ 0 ∷ 0 ∷ 1 ∷ zeros 5)) []
     ∷ refuses (responding (idle ∷ []) (nothing ∷ []) 0) CombinerSkip 12 (zeros 25 ++ (1 ∷ 0 ∷ 1 ∷ zeros 5))
     ∷ refuses (collecting (idle ∷ []) (nothing ∷ [])) CombinerSkip 13 (zeros 27 ++ (1 ∷ zeros 5))
     -- combiner_go_to_responding starts at the first client; it needs to collect, and all clients looked at
     ∷ does (collecting (gathered 7 ∷ idle ∷ []) (holds 7 ∷ nothing ∷ [])) CombinerGoToResponding
-    (gatheredBytes 7 ++ (idleBytes ++ (0 ∷ 1 ∷ 1 ∷ 0 ∷ 2 ∷ 1 ∷ four 7 ++ zeros 5))) []
+    (gathered_bytes 7 ++ (idle_bytes ++ (0 ∷ 1 ∷ 1 ∷ 0 ∷ 2 ∷ 1 ∷ four 7 ++ zeros 5))) []
     ∷ refuses (responding (idle ∷ []) (nothing ∷ []) 1) CombinerGoToResponding 12 (zeros 25 ++ (1 ∷ 1 ∷ 1 ∷ zeros 5))
     ∷ refuses (collecting (idle ∷ idle ∷ []) (nothing ∷ [])) CombinerGoToResponding 13 (zeros 50 ++ (1 ∷ zeros 5))
     ∷ []
 
-abbrev pub combinerResponds : List (Case flat)
-combinerResponds =
+abbrev pub combiner_responds : List (Case flat)
+combiner_responds =
     -- combiner_send stores the response, clears the slot and goes on to the next client; it needs to respond, a client left, and that very id
     does (responding (gathered wide ∷ []) (holds wide ∷ []) 0) (CombinerSend wide wider)
-    (1 ∷ wideBytes ++ (zeros 9 ++ (1 ∷ wideBytes ++ (widerBytes ++ (0 ∷ 0 ∷ 1 ∷ 1 ∷ 1 ∷ 1 ∷ wideBytes))))) []
+    (1 ∷ wide_bytes ++ (zeros 9 ++ (1 ∷ wide_bytes ++ (wider_bytes ++ (0 ∷ 0 ∷ 1 ∷ 1 ∷ 1 ∷ 1 ∷ wide_bytes))))) []
     ∷ does (responding (answered 7 98 ∷ gathered 8 ∷ []) (holds 7 ∷ holds 8 ∷ []) 1) (CombinerSend 8 99)
-    (answeredBytes 7 98 ++ (answeredBytes 8 99 ++ (0 ∷ 0 ∷ 1 ∷ 2 ∷ 2 ∷ 1 ∷ four 7 ++ (1 ∷ four 8)))) []
-    ∷ refuses (collecting (gathered 7 ∷ []) (holds 7 ∷ [])) (CombinerSend 7 99) 12 (gatheredBytes 7 ++ (0 ∷ 1 ∷ 0 ∷ 0 ∷ 1 ∷ 1 ∷ four 7))
-    ∷ refuses (responding (answered 7 99 ∷ []) (holds 7 ∷ []) 1) (CombinerSend 7 99) 13 (answeredBytes 7 99 ++ (0 ∷ 0 ∷ 1 ∷ 1 ∷ 1 ∷ 1 ∷ four 7))
-    ∷ refuses (responding (gathered 7 ∷ []) (holds 7 ∷ []) 0) (CombinerSend 8 99) 15 (gatheredBytes 7 ++ (0 ∷ 1 ∷ 1 ∷ 0 ∷ 1 ∷ 1 ∷ four 7))
+    (answered_bytes 7 98 ++ (answered_bytes 8 99 ++ (0 ∷ 0 ∷ 1 ∷ 2 ∷ 2 ∷ 1 ∷ four 7 ++ (1 ∷ four 8)))) []
+    ∷ refuses (collecting (gathered 7 ∷ []) (holds 7 ∷ [])) (CombinerSend 7 99) 12 (gathered_bytes 7 ++ (0 ∷ 1 ∷ 0 ∷ 0 ∷ 1 ∷ 1 ∷ four 7))
+    ∷ refuses (responding (answered 7 99 ∷ []) (holds 7 ∷ []) 1) (CombinerSend 7 99) 13 (answered_bytes 7 99 ++ (0 ∷ 0 ∷ 1 ∷ 1 ∷ 1 ∷ 1 ∷ four 7))
+    ∷ refuses (responding (gathered 7 ∷ []) (holds 7 ∷ []) 0) (CombinerSend 8 99) 15 (gathered_bytes 7 ++ (0 ∷ 1 ∷ 1 ∷ 0 ∷ 1 ∷ 1 ∷ four 7))
     -- an element without an id is no id, 0 neither
     ∷ refuses (responding (idle ∷ []) (nothing ∷ []) 0) (CombinerSend 0 99) 15 (zeros 25 ++ (1 ∷ 0 ∷ 1 ∷ zeros 5))
     -- combiner_send_skip goes on; it needs to respond, a client left, and no id (15 also where the id is 0)
-    ∷ does (responding (asks 7 42 ∷ idle ∷ []) (nothing ∷ nothing ∷ []) 0) CombinerSendSkip (askBytes 7 42 ++ (idleBytes ++ (0 ∷ 1 ∷ 1 ∷ 1 ∷ 2 ∷ zeros 10))) []
+    ∷ does (responding (asks 7 42 ∷ idle ∷ []) (nothing ∷ nothing ∷ []) 0) CombinerSendSkip (ask_bytes 7 42 ++ (idle_bytes ++ (0 ∷ 1 ∷ 1 ∷ 1 ∷ 2 ∷ zeros 10))) []
     ∷ refuses (collecting (idle ∷ []) (nothing ∷ [])) CombinerSendSkip 12 (zeros 27 ++ (1 ∷ zeros 5))
     ∷ refuses (responding (idle ∷ []) (nothing ∷ []) 1) CombinerSendSkip 13 (zeros 25 ++ (1 ∷ 1 ∷ 1 ∷ zeros 5))
-    ∷ refuses (responding (gathered 7 ∷ []) (holds 7 ∷ []) 0) CombinerSendSkip 15 (gatheredBytes 7 ++ (0 ∷ 1 ∷ 1 ∷ 0 ∷ 1 ∷ 1 ∷ four 7))
-    ∷ refuses (responding (gathered 0 ∷ []) (holds 0 ∷ []) 0) CombinerSendSkip 15 (gatheredBytes 0 ++ (0 ∷ 1 ∷ 1 ∷ 0 ∷ 1 ∷ 1 ∷ zeros 4))
+    ∷ refuses (responding (gathered 7 ∷ []) (holds 7 ∷ []) 0) CombinerSendSkip 15 (gathered_bytes 7 ++ (0 ∷ 1 ∷ 1 ∷ 0 ∷ 1 ∷ 1 ∷ four 7))
+    ∷ refuses (responding (gathered 0 ∷ []) (holds 0 ∷ []) 0) CombinerSendSkip 15 (gathered_bytes 0 ++ (0 ∷ 1 ∷ 1 ∷ 0 ∷ 1 ∷ 1 ∷ zeros 4))
     -- combiner_go_to_collecting drops what was gathered; it needs to respond, and all clients done
-    ∷ does (responding (answered 7 99 ∷ []) (holds 7 ∷ []) 1) CombinerGoToCollecting (answeredBytes 7 99 ++ zeros 5) []
+    ∷ does (responding (answered 7 99 ∷ []) (holds 7 ∷ []) 1) CombinerGoToCollecting (answered_bytes 7 99 ++ zeros 5) []
     ∷ refuses (collecting (idle ∷ []) (nothing ∷ [])) CombinerGoToCollecting 12 (zeros 27 ++ (1 ∷ zeros 5))
     ∷ refuses (responding (idle ∷ idle ∷ []) (nothing ∷ nothing ∷ []) 1) CombinerGoToCollecting 13 (zeros 48 ++ (1 ∷ 1 ∷ 2 ∷ zeros 10))
     ∷ []
 
-abbrev pub wholeRuns : List (Case flat)
-wholeRuns =
+abbrev pub whole_runs : List (Case flat)
+whole_runs =
     -- P1: of 0 clients both go_to steps are accepted, and combiner_skip is 13
-    runs (freshMade 0) (CombinerGoToResponding ∷ CombinerGoToCollecting ∷ CombinerSkip ∷ []) 13 2 (zeros 5) []
+    runs (fresh_made 0) (CombinerGoToResponding ∷ CombinerGoToCollecting ∷ CombinerSkip ∷ []) 13 2 (zeros 5) []
     -- P3, the state being 25 zeros and then 01 01 01 01 00 00 00 07
-    ∷ runs (freshMade 1)
+    ∷ runs (fresh_made 1)
     (ClientSend 0 7 42 ∷ CombinerRecv ∷ CombinerGoToResponding ∷ CombinerSend 7 99 ∷ ClientRecv 0 ∷ []) 0 5
     (zeros 25 ++ (1 ∷ 1 ∷ 1 ∷ 1 ∷ 0 ∷ 0 ∷ 0 ∷ 7 ∷ [])) (9 ∷ 0 ∷ 0 ∷ 0 ∷ 0 ∷ 7 ∷ 0 ∷ 0 ∷ 0 ∷ 99 ∷ [])
     -- P4, P5, and P6: P3's fourth step with rid 8
-    ∷ runs (freshMade 1) (ClientSend 0 7 42 ∷ CombinerSkip ∷ []) 0 2 (askBytes 7 42 ++ (0 ∷ 1 ∷ 0 ∷ 0 ∷ 1 ∷ zeros 5)) []
-    ∷ runs (freshMade 1) (ClientSend 0 7 42 ∷ ClientRecv 0 ∷ []) 14 1 (askBytes 7 42 ++ (0 ∷ 1 ∷ zeros 3)) []
-    ∷ runs (freshMade 1)
+    ∷ runs (fresh_made 1) (ClientSend 0 7 42 ∷ CombinerSkip ∷ []) 0 2 (ask_bytes 7 42 ++ (0 ∷ 1 ∷ 0 ∷ 0 ∷ 1 ∷ zeros 5)) []
+    ∷ runs (fresh_made 1) (ClientSend 0 7 42 ∷ ClientRecv 0 ∷ []) 14 1 (ask_bytes 7 42 ++ (0 ∷ 1 ∷ zeros 3)) []
+    ∷ runs (fresh_made 1)
     (ClientSend 0 7 42 ∷ CombinerRecv ∷ CombinerGoToResponding ∷ CombinerSend 8 99 ∷ ClientRecv 0 ∷ []) 15 3
-    (gatheredBytes 7 ++ (0 ∷ 1 ∷ 1 ∷ 0 ∷ 1 ∷ 1 ∷ four 7)) []
+    (gathered_bytes 7 ++ (0 ∷ 1 ∷ 1 ∷ 0 ∷ 1 ∷ 1 ∷ four 7)) []
     -- two rounds: a request that was skipped is served in the next one
-    ∷ runs (freshMade 1)
+    ∷ runs (fresh_made 1)
     (ClientSend 0 7 42 ∷ CombinerSkip ∷ CombinerGoToResponding ∷ CombinerSendSkip ∷ CombinerGoToCollecting
     ∷ CombinerRecv ∷ CombinerGoToResponding ∷ CombinerSend 7 99 ∷ ClientRecv 0 ∷ CombinerGoToCollecting ∷ []) 0 10
     (zeros 28) (9 ∷ 0 ∷ four 7 ++ four 99)
     -- two clients with one id: turns, and not ids, match answers to requests
-    ∷ runs (freshMade 2)
+    ∷ runs (fresh_made 2)
     (ClientSend 1 7 2 ∷ ClientSend 0 7 1 ∷ CombinerRecv ∷ CombinerRecv ∷ CombinerGoToResponding ∷ CombinerSend 7 10 ∷ CombinerSend 7 20
     ∷ CombinerGoToCollecting ∷ ClientRecv 1 ∷ ClientRecv 0 ∷ []) 0 10
     (zeros 51) (9 ∷ 1 ∷ four 7 ++ (four 20 ++ (9 ∷ 0 ∷ four 7 ++ four 10)))
     -- a round of 16 clients who ask nothing
-    ∷ runs (freshMade 16) (replicate 16 CombinerSkip ++ (CombinerGoToResponding ∷ replicate 16 CombinerSendSkip ++ (CombinerGoToCollecting ∷ []))) 0 34 (zeros 373) []
+    ∷ runs (fresh_made 16) (replicate 16 CombinerSkip ++ (CombinerGoToResponding ∷ replicate 16 CombinerSendSkip ++ (CombinerGoToCollecting ∷ []))) 0 34 (zeros 373) []
     ∷ []
 
 -- a fresh machine of so many clients: its code, and the image of its state
-abbrev pub freshCases : List (Start ℕ)
-freshCases =
+abbrev pub fresh_cases : List (Start ℕ)
+fresh_cases =
     starts 0 0 (zeros 5)
     ∷ starts 1 0 (zeros 28)
     ∷ starts 2 0 (zeros 51)
@@ -208,8 +208,8 @@ freshCases =
 
 -- rows with one thing wrong in each: the code, the place, the image, that the state is sound (a request is kept where none is asked, which no image shows),
 -- the log
-abbrev pub wrongCases : List (Case flat)
-wrongCases =
+abbrev pub wrong_cases : List (Case flat)
+wrong_cases =
     runs (collecting (answered 7 9 ∷ []) []) (ClientRecv 0 ∷ []) 12 1 (zeros 28) (9 ∷ 0 ∷ four 7 ++ four 9)
     ∷ runs (collecting (answered 7 9 ∷ []) []) (ClientRecv 0 ∷ []) 0 2 (zeros 28) (9 ∷ 0 ∷ four 7 ++ four 9)
     ∷ runs (collecting (answered 7 9 ∷ []) []) (ClientRecv 0 ∷ []) 0 1 (zeros 27) (9 ∷ 0 ∷ four 7 ++ four 9)
@@ -219,15 +219,15 @@ wrongCases =
     ∷ []
 
 -- the code, the image
-abbrev pub wrongFresh : List (Start ℕ)
-wrongFresh = starts 1 5 (zeros 28) ∷ starts 1 0 (zeros 27) ∷ []
+abbrev pub wrong_fresh : List (Start ℕ)
+wrong_fresh = starts 1 5 (zeros 28) ∷ starts 1 0 (zeros 27) ∷ []
 
 -- ---------- every row is right, and every wrong one is not
 
 abbrev pub Tabled : Type 0
 Tabled =
-    (allStarted flat sound imageBytes entryBytes freshCode freshMade freshCases
-    && (allRight flat sound imageBytes entryBytes clientSends && (allRight flat sound imageBytes entryBytes clientRecvs
-    && (allRight flat sound imageBytes entryBytes combinerGathers && (allRight flat sound imageBytes entryBytes combinerResponds
-    && (allRight flat sound imageBytes entryBytes wholeRuns
-    && (allWrong flat sound imageBytes entryBytes wrongCases && noneStarted flat sound imageBytes entryBytes freshCode freshMade wrongFresh))))))) ≡ true
+    (all_started flat sound image_bytes entry_bytes fresh_code fresh_made fresh_cases
+    && (all_right flat sound image_bytes entry_bytes client_sends && (all_right flat sound image_bytes entry_bytes client_recvs
+    && (all_right flat sound image_bytes entry_bytes combiner_gathers && (all_right flat sound image_bytes entry_bytes combiner_responds
+    && (all_right flat sound image_bytes entry_bytes whole_runs
+    && (all_wrong flat sound image_bytes entry_bytes wrong_cases && none_started flat sound image_bytes entry_bytes fresh_code fresh_made wrong_fresh))))))) ≡ true

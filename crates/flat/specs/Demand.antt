@@ -6,7 +6,7 @@ use Rattle.schedule.specs.Limits as limit
 use Rattle.schedule.specs.declared.steps.FlatStep.{FlatStep}
 use Rattle.schedule.specs.declared.steps.FlatStep.TheVariants.{ClientSend, ClientRecv, CombinerRecv, CombinerSkip, CombinerGoToResponding}
 use Rattle.schedule.specs.declared.steps.FlatStep.TheVariants.{CombinerSend, CombinerSendSkip, CombinerGoToCollecting}
-use Rattle.flat.specs.Flat.{flat, freshState, client}
+use Rattle.flat.specs.Flat.{flat, fresh_state, client}
 use Rattle.flat.specs.declared.state.Client.{Client}
 use Rattle.flat.specs.declared.state.State.{State}
 use Rattle.flat.specs.declared.entry.Entry.{Entry}
@@ -31,88 +31,88 @@ add false m l = l
 -- ---------- what is counted: the messages of a history, oldest first
 
 -- the requests that client j sent
-abbrev pub addRequest : ℕ → FlatStep → List Message → List Message
-addRequest j (ClientSend i rid req) l = add (eqb j i) (message rid req) l
-addRequest j (ClientRecv i) l = l
-addRequest j CombinerRecv l = l
-addRequest j CombinerSkip l = l
-addRequest j CombinerGoToResponding l = l
-addRequest j (CombinerSend rid resp) l = l
-addRequest j CombinerSendSkip l = l
-addRequest j CombinerGoToCollecting l = l
+abbrev pub add_request : ℕ → FlatStep → List Message → List Message
+add_request j (ClientSend i rid req) l = add (eqb j i) (message rid req) l
+add_request j (ClientRecv i) l = l
+add_request j CombinerRecv l = l
+add_request j CombinerSkip l = l
+add_request j CombinerGoToResponding l = l
+add_request j (CombinerSend rid resp) l = l
+add_request j CombinerSendSkip l = l
+add_request j CombinerGoToCollecting l = l
 
 abbrev pub requests : Hist → ℕ → List Message
 requests [] j = []
-requests (e ∷ h) j = addRequest j e.did (requests h j)
+requests (e ∷ h) j = add_request j e.did (requests h j)
 
 -- the answers logged for client j
-abbrev pub addAnswers : ℕ → List Entry → List Message → List Message
-addAnswers j [] l = l
-addAnswers j (Answer i rid resp ∷ es) l = addAnswers j es (add (eqb j i) (message rid resp) l)
+abbrev pub add_answers : ℕ → List Entry → List Message → List Message
+add_answers j [] l = l
+add_answers j (Answer i rid resp ∷ es) l = add_answers j es (add (eqb j i) (message rid resp) l)
 
 abbrev pub answers : Hist → ℕ → List Message
 answers [] j = []
-answers (e ∷ h) j = addAnswers j e.wrote (answers h j)
+answers (e ∷ h) j = add_answers j e.wrote (answers h j)
 
 -- whose turn it is in a round of responses: the combiner_sends and combiner_send_skips since the latest combiner_go_to_responding
-abbrev pub turnAfter : FlatStep → ℕ → ℕ
-turnAfter (ClientSend i rid req) c = c
-turnAfter (ClientRecv i) c = c
-turnAfter CombinerRecv c = c
-turnAfter CombinerSkip c = c
-turnAfter CombinerGoToResponding c = 0
-turnAfter (CombinerSend rid resp) c = c + 1
-turnAfter CombinerSendSkip c = c + 1
-turnAfter CombinerGoToCollecting c = c
+abbrev pub turn_after : FlatStep → ℕ → ℕ
+turn_after (ClientSend i rid req) c = c
+turn_after (ClientRecv i) c = c
+turn_after CombinerRecv c = c
+turn_after CombinerSkip c = c
+turn_after CombinerGoToResponding c = 0
+turn_after (CombinerSend rid resp) c = c + 1
+turn_after CombinerSendSkip c = c + 1
+turn_after CombinerGoToCollecting c = c
 
 abbrev pub turn : Hist → ℕ
 turn [] = 0
-turn (e ∷ h) = turnAfter e.did (turn h)
+turn (e ∷ h) = turn_after e.did (turn h)
 
 -- the combiner_sends made for client j: those at its turn
-abbrev pub addSend : ℕ → ℕ → FlatStep → List Message → List Message
-addSend j c (ClientSend i rid req) l = l
-addSend j c (ClientRecv i) l = l
-addSend j c CombinerRecv l = l
-addSend j c CombinerSkip l = l
-addSend j c CombinerGoToResponding l = l
-addSend j c (CombinerSend rid resp) l = add (eqb j c) (message rid resp) l
-addSend j c CombinerSendSkip l = l
-addSend j c CombinerGoToCollecting l = l
+abbrev pub add_send : ℕ → ℕ → FlatStep → List Message → List Message
+add_send j c (ClientSend i rid req) l = l
+add_send j c (ClientRecv i) l = l
+add_send j c CombinerRecv l = l
+add_send j c CombinerSkip l = l
+add_send j c CombinerGoToResponding l = l
+add_send j c (CombinerSend rid resp) l = add (eqb j c) (message rid resp) l
+add_send j c CombinerSendSkip l = l
+add_send j c CombinerGoToCollecting l = l
 
 abbrev pub sends : Hist → ℕ → List Message
 sends [] j = []
-sends (e ∷ h) j = addSend j (turn h) e.did (sends h j)
+sends (e ∷ h) j = add_send j (turn h) e.did (sends h j)
 
 -- whose place it is in a round of gatherings: the combiner_recvs and combiner_skips since the latest combiner_go_to_collecting
-abbrev pub placeAfter : FlatStep → ℕ → ℕ
-placeAfter (ClientSend i rid req) c = c
-placeAfter (ClientRecv i) c = c
-placeAfter CombinerRecv c = c + 1
-placeAfter CombinerSkip c = c + 1
-placeAfter CombinerGoToResponding c = c
-placeAfter (CombinerSend rid resp) c = c
-placeAfter CombinerSendSkip c = c
-placeAfter CombinerGoToCollecting c = 0
+abbrev pub place_after : FlatStep → ℕ → ℕ
+place_after (ClientSend i rid req) c = c
+place_after (ClientRecv i) c = c
+place_after CombinerRecv c = c + 1
+place_after CombinerSkip c = c + 1
+place_after CombinerGoToResponding c = c
+place_after (CombinerSend rid resp) c = c
+place_after CombinerSendSkip c = c
+place_after CombinerGoToCollecting c = 0
 
 abbrev pub place : Hist → ℕ
 place [] = 0
-place (e ∷ h) = placeAfter e.did (place h)
+place (e ∷ h) = place_after e.did (place h)
 
 -- the gatherings from client j: the combiner_recvs at its place
-abbrev pub addGathering : ℕ → ℕ → FlatStep → ℕ → ℕ
-addGathering j c (ClientSend i rid req) n = n
-addGathering j c (ClientRecv i) n = n
-addGathering j c CombinerRecv n = tick (eqb j c) n
-addGathering j c CombinerSkip n = n
-addGathering j c CombinerGoToResponding n = n
-addGathering j c (CombinerSend rid resp) n = n
-addGathering j c CombinerSendSkip n = n
-addGathering j c CombinerGoToCollecting n = n
+abbrev pub add_gathering : ℕ → ℕ → FlatStep → ℕ → ℕ
+add_gathering j c (ClientSend i rid req) n = n
+add_gathering j c (ClientRecv i) n = n
+add_gathering j c CombinerRecv n = tick (eqb j c) n
+add_gathering j c CombinerSkip n = n
+add_gathering j c CombinerGoToResponding n = n
+add_gathering j c (CombinerSend rid resp) n = n
+add_gathering j c CombinerSendSkip n = n
+add_gathering j c CombinerGoToCollecting n = n
 
 abbrev pub gatherings : Hist → ℕ → ℕ
 gatherings [] j = 0
-gatherings (e ∷ h) j = addGathering j (place h) e.did (gatherings h j)
+gatherings (e ∷ h) j = add_gathering j (place h) e.did (gatherings h j)
 
 -- the client_recvs of client j
 abbrev pub receives : ℕ → FlatStep → Bool
@@ -129,25 +129,25 @@ abbrev pub recvs : Hist → ℕ → ℕ
 recvs h j = did# (receives j) h
 
 -- the combiner's rounds: turned to responding, turned to collecting; its steps in them: at a place, at a turn
-abbrev pub toResponding : FlatStep → Bool
-toResponding (ClientSend i rid req) = false
-toResponding (ClientRecv i) = false
-toResponding CombinerRecv = false
-toResponding CombinerSkip = false
-toResponding CombinerGoToResponding = true
-toResponding (CombinerSend rid resp) = false
-toResponding CombinerSendSkip = false
-toResponding CombinerGoToCollecting = false
+abbrev pub to_responding : FlatStep → Bool
+to_responding (ClientSend i rid req) = false
+to_responding (ClientRecv i) = false
+to_responding CombinerRecv = false
+to_responding CombinerSkip = false
+to_responding CombinerGoToResponding = true
+to_responding (CombinerSend rid resp) = false
+to_responding CombinerSendSkip = false
+to_responding CombinerGoToCollecting = false
 
-abbrev pub toCollecting : FlatStep → Bool
-toCollecting (ClientSend i rid req) = false
-toCollecting (ClientRecv i) = false
-toCollecting CombinerRecv = false
-toCollecting CombinerSkip = false
-toCollecting CombinerGoToResponding = false
-toCollecting (CombinerSend rid resp) = false
-toCollecting CombinerSendSkip = false
-toCollecting CombinerGoToCollecting = true
+abbrev pub to_collecting : FlatStep → Bool
+to_collecting (ClientSend i rid req) = false
+to_collecting (ClientRecv i) = false
+to_collecting CombinerRecv = false
+to_collecting CombinerSkip = false
+to_collecting CombinerGoToResponding = false
+to_collecting (CombinerSend rid resp) = false
+to_collecting CombinerSendSkip = false
+to_collecting CombinerGoToCollecting = true
 
 abbrev pub at_place : FlatStep → Bool
 at_place (ClientSend i rid req) = false
@@ -159,15 +159,15 @@ at_place (CombinerSend rid resp) = false
 at_place CombinerSendSkip = false
 at_place CombinerGoToCollecting = false
 
-abbrev pub atTurn : FlatStep → Bool
-atTurn (ClientSend i rid req) = false
-atTurn (ClientRecv i) = false
-atTurn CombinerRecv = false
-atTurn CombinerSkip = false
-atTurn CombinerGoToResponding = false
-atTurn (CombinerSend rid resp) = true
-atTurn CombinerSendSkip = true
-atTurn CombinerGoToCollecting = false
+abbrev pub at_turn : FlatStep → Bool
+at_turn (ClientSend i rid req) = false
+at_turn (ClientRecv i) = false
+at_turn CombinerRecv = false
+at_turn CombinerSkip = false
+at_turn CombinerGoToResponding = false
+at_turn (CombinerSend rid resp) = true
+at_turn CombinerSendSkip = true
+at_turn CombinerGoToCollecting = false
 
 -- the k-th, from 0
 abbrev pub nth : List Message → ℕ → Message
@@ -181,7 +181,7 @@ pub record AtClientRecv (before : Hist) (j : ℕ) (log : List Entry) : Type 0 wh
   pub asked : length (requests before j) ≡ recvs before j + 1
   pub gathered : gatherings before j ≡ recvs before j + 1
   pub sent : length (sends before j) ≡ recvs before j + 1
-  pub own-id : (nth (sends before j) (recvs before j)).id ≡ (nth (requests before j) (recvs before j)).id
+  pub own_id : (nth (sends before j) (recvs before j)).id ≡ (nth (requests before j) (recvs before j)).id
   pub told : let m = nth (sends before j) (recvs before j) in log ≡ Answer j m.id m.load ∷ []
 
 -- a combiner_send for client j: of its requests one more was gathered than got one, and this is that one's id
@@ -204,10 +204,10 @@ At before CombinerGoToCollecting log = log ≡ []
 -- ---------- which step could come next, by counts alone: the combiner collects, or it responds
 
 abbrev pub Collects : Hist → Type 0
-Collects h = did# toResponding h ≡ did# toCollecting h
+Collects h = did# to_responding h ≡ did# to_collecting h
 
 abbrev pub Responds : Hist → Type 0
-Responds h = did# toResponding h ≡ did# toCollecting h + 1
+Responds h = did# to_responding h ≡ did# to_collecting h + 1
 
 abbrev pub Could : ℕ → Hist → FlatStep → Type 0
 Could n h (ClientSend j rid req) = (j < n) × (length (requests h j) ≡ recvs h j)
@@ -229,17 +229,17 @@ CouldAt n before x log = Could n before x × At before x log
 -- the messages of one client: those that it asked, was sent and was told, its gatherings and its client_recvs
 pub record InTurn (asked sent told : List Message) (gathered received : ℕ) : Type 0 where
   -- its k-th answer has the id of its k-th request ..
-  pub own-id : (k : ℕ) → k < length told → (nth told k).id ≡ (nth asked k).id
+  pub own_id : (k : ℕ) → k < length told → (nth told k).id ≡ (nth asked k).id
   -- .. and is the k-th combiner_send made for it, id and payload, which was made for that request
-  pub own-payload : (k : ℕ) → k < length told → nth told k ≡ nth sent k
-  pub sent-for : (k : ℕ) → k < length sent → (nth sent k).id ≡ (nth asked k).id
+  pub own_payload : (k : ℕ) → k < length told → nth told k ≡ nth sent k
+  pub sent_for : (k : ℕ) → k < length sent → (nth sent k).id ≡ (nth asked k).id
   -- in turn: each client_recv logs one answer, which comes after its combiner_send, that after its gathering, that after its request, and the next request
   -- after the answer. So exactly one gathering and one combiner_send lie between a request and its answer
   pub one_each : length told ≡ received
-  pub after-send : received ≤ length sent
-  pub after-gathering : length sent ≤ gathered
-  pub after-request : gathered ≤ length asked
-  pub one-at-a-time : length asked ≤ suc received
+  pub after_send : received ≤ length sent
+  pub after_gathering : length sent ≤ gathered
+  pub after_request : gathered ≤ length asked
+  pub one_at_a_time : length asked ≤ suc received
 
 abbrev pub Turns : Hist → Type 0
 Turns h = (j : ℕ) → InTurn (requests h j) (sends h j) (answers h j) (gatherings h j) (recvs h j)
@@ -251,7 +251,7 @@ pub record Demand (n : ℕ) (h : Hist) : Type 0 where
 
 -- after every accepted prefix from a fresh machine
 abbrev pub Demanded : Type 0
-Demanded = (n : ℕ) → n ≤ limit.clients → (h : Hist) (s : State) → Run flat (freshState n) h s → Demand n h
+Demanded = (n : ℕ) → n ≤ limit.clients → (h : Hist) (s : State) → Run flat (fresh_state n) h s → Demand n h
 
 -- ---------- the state, told by the history
 
@@ -268,20 +268,20 @@ pub record ClientTold (h : Hist) (j : ℕ) (c : Client) : Type 0 where
 -- the combiner of n clients: each round has n steps at a place and n at a turn
 pub record CombinerTold (n : ℕ) (h : Hist) (s : State) : Type 0 where
   pub count : s.count ≡ n
-  pub mode : did# toResponding h ≡ did# toCollecting h + bit s.responding
-  pub gathered : s.len + n * did# toCollecting h ≡ did# at_place h
-  pub cursor : s.idx + n * did# toCollecting h ≡ did# atTurn h
-  pub at-place : place h ≡ s.len
-  pub at_turn : s.responding ≡ true → turn h ≡ s.idx
+  pub mode : did# to_responding h ≡ did# to_collecting h + bit s.responding
+  pub gathered : s.len + n * did# to_collecting h ≡ did# at_place h
+  pub cursor : s.idx + n * did# to_collecting h ≡ did# at_turn h
+  pub place_is : place h ≡ s.len
+  pub turn_is : s.responding ≡ true → turn h ≡ s.idx
 
 abbrev pub StateCounted : Type 0
-StateCounted = (n : ℕ) → n ≤ limit.clients → (h : Hist) (s : State) → Run flat (freshState n) h s
+StateCounted = (n : ℕ) → n ≤ limit.clients → (h : Hist) (s : State) → Run flat (fresh_state n) h s
     → CombinerTold n h s × ((j : ℕ) → ClientTold h j (client s j))
 
 -- ---------- no other histories: where each step could come and shows what it must, a machine did it
 
 abbrev pub Only : ℕ → Type 0
-Only n = (h : Hist) → (((s : State) × Run flat (freshState n) h s) → AtEach (CouldAt n) h) × (AtEach (CouldAt n) h → (s : State) × Run flat (freshState n) h s)
+Only n = (h : Hist) → (((s : State) × Run flat (fresh_state n) h s) → AtEach (CouldAt n) h) × (AtEach (CouldAt n) h → (s : State) × Run flat (fresh_state n) h s)
 
 abbrev pub Exactly : Type 0
 Exactly = (n : ℕ) → n ≤ limit.clients → Only n

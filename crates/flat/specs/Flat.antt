@@ -16,83 +16,83 @@ use Rattle.flat.specs.declared.entry.Entry.TheVariants.{Answer}
 
 -- ---------- fresh: all idle, slots clear, collecting, nothing gathered; bad parameters are 5 with a state of zeros
 
-abbrev pub zeroClient : Client
-zeroClient = record { rid = 0; req = 0; resp = 0; waiting = false; asked = false; told = false; slot = false }
+abbrev pub zero_client : Client
+zero_client = record { rid = 0; req = 0; resp = 0; waiting = false; asked = false; told = false; slot = false }
 
-abbrev pub zeroElem : Elem
-zeroElem = record { rid = 0; present = false }
+abbrev pub zero_elem : Elem
+zero_elem = record { rid = 0; present = false }
 
-abbrev pub freshState : ℕ → State
-freshState count =
-    record { clients = replicate limit.clients zeroClient; elems = replicate limit.clients zeroElem; count = count; len = 0; idx = 0; responding = false }
+abbrev pub fresh_state : ℕ → State
+fresh_state count =
+    record { clients = replicate limit.clients zero_client; elems = replicate limit.clients zero_elem; count = count; len = 0; idx = 0; responding = false }
 
 abbrev pub fresh_of : ℕ → Made
 fresh_of count =
-    cond (ltb limit.clients count) (record { state = freshState 0; code = code.parameter })
-    (record { state = freshState count; code = code.accepted })
+    cond (ltb limit.clients count) (record { state = fresh_state 0; code = code.parameter })
+    (record { state = fresh_state count; code = code.accepted })
 
 -- ---------- the tests: those on the combiner, then those on the client or the element that the step looks at
 
 abbrev pub client : State → ℕ → Client
-client s j = get_or s.clients j zeroClient
+client s j = get_or s.clients j zero_client
 
 abbrev pub elem : State → ℕ → Elem
-elem s j = get_or s.elems j zeroElem
+elem s j = get_or s.elems j zero_elem
 
-abbrev pub insideTests : ℕ → ℕ → List Check
-insideTests count j = need code.outside (ltb j count) ∷ []
+abbrev pub inside_tests : ℕ → ℕ → List Check
+inside_tests count j = need code.outside (ltb j count) ∷ []
 
-abbrev pub gatherTests : Bool → ℕ → ℕ → List Check
-gatherTests responding len count = need code.phase (not responding) ∷ need code.cursor (ltb len count) ∷ []
+abbrev pub gather_tests : Bool → ℕ → ℕ → List Check
+gather_tests responding len count = need code.phase (not responding) ∷ need code.cursor (ltb len count) ∷ []
 
-abbrev pub respondTests : Bool → ℕ → ℕ → List Check
-respondTests responding len count = need code.phase (not responding) ∷ need code.cursor (eqb len count) ∷ []
+abbrev pub respond_tests : Bool → ℕ → ℕ → List Check
+respond_tests responding len count = need code.phase (not responding) ∷ need code.cursor (eqb len count) ∷ []
 
-abbrev pub answerTests : Bool → ℕ → ℕ → List Check
-answerTests responding idx count = need code.phase responding ∷ need code.cursor (ltb idx count) ∷ []
+abbrev pub answer_tests : Bool → ℕ → ℕ → List Check
+answer_tests responding idx count = need code.phase responding ∷ need code.cursor (ltb idx count) ∷ []
 
-abbrev pub collectTests : Bool → ℕ → ℕ → List Check
-collectTests responding idx count = need code.phase responding ∷ need code.cursor (eqb idx count) ∷ []
+abbrev pub collect_tests : Bool → ℕ → ℕ → List Check
+collect_tests responding idx count = need code.phase responding ∷ need code.cursor (eqb idx count) ∷ []
 
-abbrev pub sendTests : Client → List Check
-sendTests c = need code.phase (not c.waiting) ∷ []
+abbrev pub send_tests : Client → List Check
+send_tests c = need code.phase (not c.waiting) ∷ []
 
-abbrev pub recvTests : Client → List Check
-recvTests c = need code.phase c.waiting ∷ need code.slot (not c.slot) ∷ []
+abbrev pub recv_tests : Client → List Check
+recv_tests c = need code.phase c.waiting ∷ need code.slot (not c.slot) ∷ []
 
-abbrev pub slotTests : Client → List Check
-slotTests c = need code.slot c.slot ∷ []
+abbrev pub slot_tests : Client → List Check
+slot_tests c = need code.slot c.slot ∷ []
 
 -- the element is this very id; the element holds no id
-abbrev pub elemTests : Elem → ℕ → List Check
-elemTests e rid = need code.element e.present ∷ need code.element (eqb rid e.rid) ∷ []
+abbrev pub elem_tests : Elem → ℕ → List Check
+elem_tests e rid = need code.element e.present ∷ need code.element (eqb rid e.rid) ∷ []
 
-abbrev pub skipTests : Elem → List Check
-skipTests e = need code.element (not e.present) ∷ []
+abbrev pub skip_tests : Elem → List Check
+skip_tests e = need code.element (not e.present) ∷ []
 
-abbrev pub combinerTests : State → FlatStep → List Check
-combinerTests s (ClientSend j rid req) = insideTests s.count j
-combinerTests s (ClientRecv j) = insideTests s.count j
-combinerTests s CombinerRecv = gatherTests s.responding s.len s.count
-combinerTests s CombinerSkip = gatherTests s.responding s.len s.count
-combinerTests s CombinerGoToResponding = respondTests s.responding s.len s.count
-combinerTests s (CombinerSend rid resp) = answerTests s.responding s.idx s.count
-combinerTests s CombinerSendSkip = answerTests s.responding s.idx s.count
-combinerTests s CombinerGoToCollecting = collectTests s.responding s.idx s.count
+abbrev pub combiner_tests : State → FlatStep → List Check
+combiner_tests s (ClientSend j rid req) = inside_tests s.count j
+combiner_tests s (ClientRecv j) = inside_tests s.count j
+combiner_tests s CombinerRecv = gather_tests s.responding s.len s.count
+combiner_tests s CombinerSkip = gather_tests s.responding s.len s.count
+combiner_tests s CombinerGoToResponding = respond_tests s.responding s.len s.count
+combiner_tests s (CombinerSend rid resp) = answer_tests s.responding s.idx s.count
+combiner_tests s CombinerSendSkip = answer_tests s.responding s.idx s.count
+combiner_tests s CombinerGoToCollecting = collect_tests s.responding s.idx s.count
 
 -- combiner_skip is allowed with the slot set
-abbrev pub clientTests : State → FlatStep → List Check
-clientTests s (ClientSend j rid req) = sendTests (client s j)
-clientTests s (ClientRecv j) = recvTests (client s j)
-clientTests s CombinerRecv = slotTests (client s s.len)
-clientTests s CombinerSkip = []
-clientTests s CombinerGoToResponding = []
-clientTests s (CombinerSend rid resp) = elemTests (elem s s.idx) rid
-clientTests s CombinerSendSkip = skipTests (elem s s.idx)
-clientTests s CombinerGoToCollecting = []
+abbrev pub client_tests : State → FlatStep → List Check
+client_tests s (ClientSend j rid req) = send_tests (client s j)
+client_tests s (ClientRecv j) = recv_tests (client s j)
+client_tests s CombinerRecv = slot_tests (client s s.len)
+client_tests s CombinerSkip = []
+client_tests s CombinerGoToResponding = []
+client_tests s (CombinerSend rid resp) = elem_tests (elem s s.idx) rid
+client_tests s CombinerSendSkip = skip_tests (elem s s.idx)
+client_tests s CombinerGoToCollecting = []
 
 abbrev pub tests : State → FlatStep → List Check
-tests s x = combinerTests s x ++ clientTests s x
+tests s x = combiner_tests s x ++ client_tests s x
 
 -- ---------- the state after
 
@@ -112,28 +112,28 @@ keeping c = record { rid = c.rid; present = true }
 abbrev pub answering : Client → ℕ → Client
 answering c resp = record { rid = c.rid; req = c.req; resp = resp; waiting = c.waiting; asked = c.asked; told = true; slot = false }
 
-abbrev pub withParts : State → List Client → List Elem → ℕ → ℕ → Bool → State
-withParts s cs es l i m = record { clients = cs; elems = es; count = s.count; len = l; idx = i; responding = m }
+abbrev pub with_parts : State → List Client → List Elem → ℕ → ℕ → Bool → State
+with_parts s cs es l i m = record { clients = cs; elems = es; count = s.count; len = l; idx = i; responding = m }
 
 -- another client at j; one element more; the cursor at the next element
-abbrev pub withClient : State → ℕ → Client → State
-withClient s j c = withParts s (set s.clients j c) s.elems s.len s.idx s.responding
+abbrev pub with_client : State → ℕ → Client → State
+with_client s j c = with_parts s (set s.clients j c) s.elems s.len s.idx s.responding
 
-abbrev pub withElem : State → Elem → State
-withElem s e = withParts s s.clients (set s.elems s.len e) (s.len + 1) s.idx s.responding
+abbrev pub with_elem : State → Elem → State
+with_elem s e = with_parts s s.clients (set s.elems s.len e) (s.len + 1) s.idx s.responding
 
 abbrev pub with_next : State → State
-with_next s = withParts s s.clients s.elems s.len (s.idx + 1) s.responding
+with_next s = with_parts s s.clients s.elems s.len (s.idx + 1) s.responding
 
 abbrev pub next : State → FlatStep → State
-next s (ClientSend j rid req) = withClient s j (sending (client s j) rid req)
-next s (ClientRecv j) = withClient s j (receiving (client s j))
-next s CombinerRecv = let c = client s s.len in withElem (withClient s s.len (gathering c)) (keeping c)
-next s CombinerSkip = withElem s zeroElem
-next s CombinerGoToResponding = withParts s s.clients s.elems s.len 0 true
-next s (CombinerSend rid resp) = with_next (withClient s s.idx (answering (client s s.idx) resp))
+next s (ClientSend j rid req) = with_client s j (sending (client s j) rid req)
+next s (ClientRecv j) = with_client s j (receiving (client s j))
+next s CombinerRecv = let c = client s s.len in with_elem (with_client s s.len (gathering c)) (keeping c)
+next s CombinerSkip = with_elem s zero_elem
+next s CombinerGoToResponding = with_parts s s.clients s.elems s.len 0 true
+next s (CombinerSend rid resp) = with_next (with_client s s.idx (answering (client s s.idx) resp))
 next s CombinerSendSkip = with_next s
-next s CombinerGoToCollecting = withParts s s.clients (replicate limit.clients zeroElem) 0 0 false
+next s CombinerGoToCollecting = with_parts s s.clients (replicate limit.clients zero_elem) 0 0 false
 
 -- client_recv logs client, rid, resp
 abbrev pub logs : State → FlatStep → List Entry

@@ -12,45 +12,45 @@ use Rattle.flat.specs.declared.entry.Entry.{Entry}
 use Rattle.flat.specs.declared.entry.Entry.TheVariants.{Answer}
 
 -- 09 j rid resp
-abbrev pub entryBytes : Entry → List ℕ
-entryBytes (Answer j rid resp) = 9 ∷ j ∷ (big 4 rid ++ big 4 resp)
+abbrev pub entry_bytes : Entry → List ℕ
+entry_bytes (Answer j rid resp) = 9 ∷ j ∷ (big 4 rid ++ big 4 resp)
 
 -- how many bytes of the image a message, a client, the mask with the combiner, and an element take
-abbrev pub messageLong : ℕ
-messageLong = 9
+abbrev pub message_long : ℕ
+message_long = 9
 
-abbrev pub clientLong : ℕ
-clientLong = 23
+abbrev pub client_long : ℕ
+client_long = 23
 
-abbrev pub combinerLong : ℕ
-combinerLong = 5
+abbrev pub combiner_long : ℕ
+combiner_long = 5
 
-abbrev pub elemLong : ℕ
-elemLong = 5
+abbrev pub elem_long : ℕ
+elem_long = 5
 
 -- present, rid, payload; absent as zeros
-abbrev pub messageBytes : Bool → ℕ → ℕ → List ℕ
-messageBytes there rid load = bool_byte there ∷ (big 4 (cond there rid 0) ++ big 4 (cond there load 0))
+abbrev pub message_bytes : Bool → ℕ → ℕ → List ℕ
+message_bytes there rid load = bool_byte there ∷ (big 4 (cond there rid 0) ++ big 4 (cond there load 0))
 
 -- waiting, rid, request, response
-abbrev pub clientBytes : Client → List ℕ
-clientBytes c = bool_byte c.waiting ∷ (big 4 c.rid ++ (messageBytes c.asked c.rid c.req ++ messageBytes c.told c.rid c.resp))
+abbrev pub client_bytes : Client → List ℕ
+client_bytes c = bool_byte c.waiting ∷ (big 4 c.rid ++ (message_bytes c.asked c.rid c.req ++ message_bytes c.told c.rid c.resp))
 
-abbrev pub elemBytes : Elem → List ℕ
-elemBytes e = bool_byte e.present ∷ big 4 e.rid
+abbrev pub elem_bytes : Elem → List ℕ
+elem_bytes e = bool_byte e.present ∷ big 4 e.rid
 
 -- the slots as one mask, client 0 lowest; then mode (0 collecting), idx, gathered length
 abbrev pub slot_of : Client → Bool
 slot_of c = c.slot
 
-abbrev pub combinerBytes : State → List ℕ
-combinerBytes s = big 2 (mask slot_of s.clients) ++ (bool_byte s.responding ∷ s.idx ∷ s.len ∷ [])
+abbrev pub combiner_bytes : State → List ℕ
+combiner_bytes s = big 2 (mask slot_of s.clients) ++ (bool_byte s.responding ∷ s.idx ∷ s.len ∷ [])
 
 -- how many of the row are in use; in a made-up state no more than there are
-abbrev pub inUse : ℕ → ℕ
-inUse n = at_most limit.clients n
+abbrev pub in_use : ℕ → ℕ
+in_use n = at_most limit.clients n
 
-abbrev pub imageBytes : State → List ℕ
-imageBytes s =
-    pieces clientBytes (take (inUse s.count) s.clients)
-    ++ (combinerBytes s ++ pieces elemBytes (take (inUse s.len) s.elems))
+abbrev pub image_bytes : State → List ℕ
+image_bytes s =
+    pieces client_bytes (take (in_use s.count) s.clients)
+    ++ (combiner_bytes s ++ pieces elem_bytes (take (in_use s.len) s.elems))

@@ -10,7 +10,7 @@ use Rattle.schedule.specs.declared.steps.FlatStep.TheVariants.{CombinerSend, Com
 use Rattle.flat.specs.Source as source
 use Rattle.flat.specs.Source.{FlatCombiner, Transition, Moves, Safe}
 use Rattle.flat.specs.Invariants.{Invariants}
-use Rattle.flat.specs.Flat.{flat, zeroClient, zeroElem, freshState, client, elem}
+use Rattle.flat.specs.Flat.{flat, zero_client, zero_elem, fresh_state, client, elem}
 use Rattle.flat.specs.Sound.{sound}
 use Rattle.flat.specs.declared.state.Client.{Client}
 use Rattle.flat.specs.declared.state.Elem.{Elem}
@@ -22,8 +22,8 @@ use Rattle.flat.specs.declared.entry.Entry.TheVariants.{Answer}
 abbrev pub given : {A : Type 0} → Bool → A → Option A
 given b a = cond b (some a) none
 
-abbrev pub clientOf : Client → source.Client
-clientOf c = cond c.waiting (source.Waiting c.rid) source.Idle
+abbrev pub client_of : Client → source.Client
+client_of c = cond c.waiting (source.Waiting c.rid) source.Idle
 
 abbrev pub elem_of : Elem → Option ℕ
 elem_of e = given e.present e.rid
@@ -32,49 +32,49 @@ elem_of e = given e.present e.rid
 abbrev pub gathered : State → List (Option ℕ)
 gathered s = map elem_of (take s.len s.elems)
 
-abbrev pub combinerOf : State → source.Combiner
-combinerOf s = cond s.responding (source.Responding (gathered s) s.idx) (source.Collecting (gathered s))
+abbrev pub combiner_of : State → source.Combiner
+combiner_of s = cond s.responding (source.Responding (gathered s) s.idx) (source.Collecting (gathered s))
 
 -- request and response carry the client's own id
 abbrev pub abs : State → FlatCombiner
 abs s =
     record {
-      num-clients = s.count;
-      clients = λ i. given (ltb i s.count) (clientOf (client s i));
+      num_clients = s.count;
+      clients = λ i. given (ltb i s.count) (client_of (client s i));
       slots = λ i. given (ltb i s.count) (client s i).slot;
-      combiner = combinerOf s;
+      combiner = combiner_of s;
       requests = λ i. given (client s i).asked (record { rid = (client s i).rid; req = (client s i).req });
       responses = λ i. given (client s i).told (record { rid = (client s i).rid; resp = (client s i).resp });
     }
 
 abbrev pub label : FlatStep → Transition
-label (ClientSend j rid req) = source.client-send j (record { rid = rid; req = req })
-label (ClientRecv j) = source.client-recv j
-label CombinerRecv = source.combiner-recv
-label CombinerSkip = source.combiner-skip
-label CombinerGoToResponding = source.combiner-go-to-responding
-label (CombinerSend rid resp) = source.combiner-send (record { rid = rid; resp = resp })
-label CombinerSendSkip = source.combiner-send-skip
-label CombinerGoToCollecting = source.combiner-go-to-collecting
+label (ClientSend j rid req) = source.client_send j (record { rid = rid; req = req })
+label (ClientRecv j) = source.client_recv j
+label CombinerRecv = source.combiner_recv
+label CombinerSkip = source.combiner_skip
+label CombinerGoToResponding = source.combiner_go_to_responding
+label (CombinerSend rid resp) = source.combiner_send (record { rid = rid; resp = resp })
+label CombinerSendSkip = source.combiner_send_skip
+label CombinerGoToCollecting = source.combiner_go_to_collecting
 
 -- ---------- soundness: the source's invariants, the limits, unused entries zero
 
 pub record Sound (s : State) : Type 0 where
   pub inv : Invariants (abs s)
   -- the rows are whole, the clients in their limits, and what was gathered lies in its row
-  pub whole-clients : length s.clients ≡ limit.clients
+  pub whole_clients : length s.clients ≡ limit.clients
   pub whole_elems : length s.elems ≡ limit.clients
   pub few : s.count ≤ limit.clients
-  pub few-gathered : s.len ≤ limit.clients
+  pub few_gathered : s.len ≤ limit.clients
   -- a client that is not there; an idle client's id; what no request and no response is stored in; the cursor while collecting; an element not gathered; the id
   -- of an empty one
-  pub unused-clients : (j : ℕ) → s.count ≤ j → client s j ≡ zeroClient
-  pub unused-rid : (j : ℕ) → (client s j).waiting ≡ false → (client s j).rid ≡ 0
-  pub unused-req : (j : ℕ) → (client s j).asked ≡ false → (client s j).req ≡ 0
-  pub unused-resp : (j : ℕ) → (client s j).told ≡ false → (client s j).resp ≡ 0
-  pub unused-cursor : s.responding ≡ false → s.idx ≡ 0
-  pub unused-elems : (j : ℕ) → s.len ≤ j → elem s j ≡ zeroElem
-  pub unused-ids : (j : ℕ) → (elem s j).present ≡ false → (elem s j).rid ≡ 0
+  pub unused_clients : (j : ℕ) → s.count ≤ j → client s j ≡ zero_client
+  pub unused_rid : (j : ℕ) → (client s j).waiting ≡ false → (client s j).rid ≡ 0
+  pub unused_req : (j : ℕ) → (client s j).asked ≡ false → (client s j).req ≡ 0
+  pub unused_resp : (j : ℕ) → (client s j).told ≡ false → (client s j).resp ≡ 0
+  pub unused_cursor : s.responding ≡ false → s.idx ≡ 0
+  pub unused_elems : (j : ℕ) → s.len ≤ j → elem s j ≡ zero_elem
+  pub unused_ids : (j : ℕ) → (elem s j).present ≡ false → (elem s j).rid ≡ 0
 
 -- ---------- the scope's table of codes, said of flat_combine.rs. No step counts, so that no counter's limit is ever reached
 
@@ -88,47 +88,47 @@ Responds (source.Collecting elems) P = ⊥
 Responds (source.Responding elems j) P = P elems j
 
 module _ (a : FlatCombiner) where
-  abbrev atWork : Line
-  atWork = line code.phase (Responds a.combiner (λ elems j. Unit {0}))
+  abbrev at_work : Line
+  at_work = line code.phase (Responds a.combiner (λ elems j. Unit {0}))
 
-  abbrev atRest : Line
-  atRest = line code.phase (Collects a.combiner (λ elems. Unit {0}))
+  abbrev at_rest : Line
+  at_rest = line code.phase (Collects a.combiner (λ elems. Unit {0}))
 
   abbrev pub lines : Transition → List Line
-  lines (source.client-send j request) =
-      line code.outside (a.num-clients ≤ j) ∷ line code.phase ((rid : ℕ) × (a.clients j ≡ some (source.Waiting rid))) ∷ []
-  lines (source.client-recv j) =
-      line code.outside (a.num-clients ≤ j) ∷ line code.phase (a.clients j ≡ some source.Idle) ∷ line code.slot (a.slots j ≡ some true) ∷ []
-  lines source.combiner-recv =
-      atWork
-      ∷ line code.cursor (Collects a.combiner (λ elems. a.num-clients ≤ length elems))
+  lines (source.client_send j request) =
+      line code.outside (a.num_clients ≤ j) ∷ line code.phase ((rid : ℕ) × (a.clients j ≡ some (source.Waiting rid))) ∷ []
+  lines (source.client_recv j) =
+      line code.outside (a.num_clients ≤ j) ∷ line code.phase (a.clients j ≡ some source.Idle) ∷ line code.slot (a.slots j ≡ some true) ∷ []
+  lines source.combiner_recv =
+      at_work
+      ∷ line code.cursor (Collects a.combiner (λ elems. a.num_clients ≤ length elems))
       ∷ line code.slot (Collects a.combiner (λ elems. a.slots (length elems) ≡ some false)) ∷ []
-  lines source.combiner-skip = atWork ∷ line code.cursor (Collects a.combiner (λ elems. a.num-clients ≤ length elems)) ∷ []
-  lines source.combiner-go-to-responding = atWork ∷ line code.cursor (Collects a.combiner (λ elems. length elems ≡ a.num-clients → ⊥)) ∷ []
-  lines (source.combiner-send response) =
-      atRest
-      ∷ line code.cursor (Responds a.combiner (λ elems j. a.num-clients ≤ j))
+  lines source.combiner_skip = at_work ∷ line code.cursor (Collects a.combiner (λ elems. a.num_clients ≤ length elems)) ∷ []
+  lines source.combiner_go_to_responding = at_work ∷ line code.cursor (Collects a.combiner (λ elems. length elems ≡ a.num_clients → ⊥)) ∷ []
+  lines (source.combiner_send response) =
+      at_rest
+      ∷ line code.cursor (Responds a.combiner (λ elems j. a.num_clients ≤ j))
       ∷ line code.element (Responds a.combiner (λ elems j. get_or elems j none ≡ some response.rid → ⊥)) ∷ []
-  lines source.combiner-send-skip =
-      atRest
-      ∷ line code.cursor (Responds a.combiner (λ elems j. a.num-clients ≤ j))
+  lines source.combiner_send_skip =
+      at_rest
+      ∷ line code.cursor (Responds a.combiner (λ elems j. a.num_clients ≤ j))
       ∷ line code.element (Responds a.combiner (λ elems j. (rid : ℕ) × (get_or elems j none ≡ some rid))) ∷ []
-  lines source.combiner-go-to-collecting = atRest ∷ line code.cursor (Responds a.combiner (λ elems j. j ≡ a.num-clients → ⊥)) ∷ []
+  lines source.combiner_go_to_collecting = at_rest ∷ line code.cursor (Responds a.combiner (λ elems j. j ≡ a.num_clients → ⊥)) ∷ []
 
 -- what the source hands out: client_recv the response that it withdraws
 abbrev pub HandsOut : FlatCombiner → Transition → List Entry → Type 0
-HandsOut pre (source.client-send j request) es = es ≡ []
-HandsOut pre (source.client-recv j) es = (p : source.Response) × (pre.responses j ≡ some p) × (es ≡ Answer j p.rid p.resp ∷ [])
-HandsOut pre source.combiner-recv es = es ≡ []
-HandsOut pre source.combiner-skip es = es ≡ []
-HandsOut pre source.combiner-go-to-responding es = es ≡ []
-HandsOut pre (source.combiner-send response) es = es ≡ []
-HandsOut pre source.combiner-send-skip es = es ≡ []
-HandsOut pre source.combiner-go-to-collecting es = es ≡ []
+HandsOut pre (source.client_send j request) es = es ≡ []
+HandsOut pre (source.client_recv j) es = (p : source.Response) × (pre.responses j ≡ some p) × (es ≡ Answer j p.rid p.resp ∷ [])
+HandsOut pre source.combiner_recv es = es ≡ []
+HandsOut pre source.combiner_skip es = es ≡ []
+HandsOut pre source.combiner_go_to_responding es = es ≡ []
+HandsOut pre (source.combiner_send response) es = es ≡ []
+HandsOut pre source.combiner_send_skip es = es ≡ []
+HandsOut pre source.combiner_go_to_collecting es = es ≡ []
 
 -- the machine beside flat_combine.rs: `Enabled`, `Route` and `Exact` of machine/specs/Sourced.antt are said of it
-abbrev pub flatCombine : Sourced flat
-flatCombine =
+abbrev pub flat_combine : Sourced flat
+flat_combine =
     record {
       Source = FlatCombiner;
       Transition = Transition;
@@ -144,15 +144,15 @@ flatCombine =
 
 pub record Refines : Type 0 where
   -- a fresh machine of any number of clients in its limits is the source's, and sound
-  pub fresh-initialize : (n : ℕ) → n ≤ limit.clients → abs (freshState n) ≡ source.initialize n
-  pub fresh-sound : (n : ℕ) → n ≤ limit.clients → sound (freshState n) ≡ true
+  pub fresh_initialize : (n : ℕ) → n ≤ limit.clients → abs (fresh_state n) ≡ source.initialize n
+  pub fresh_sound : (n : ℕ) → n ≤ limit.clients → sound (fresh_state n) ≡ true
   -- the test is the record, where the rows are whole, as every row of the code is
-  pub sound-means : (s : State) → length s.clients ≡ limit.clients → length s.elems ≡ limit.clients → sound s ≡ true → Sound s
-  pub means-sound : (s : State) → Sound s → sound s ≡ true
+  pub sound_means : (s : State) → length s.clients ≡ limit.clients → length s.elems ≡ limit.clients → sound s ≡ true → Sound s
+  pub means_sound : (s : State) → Sound s → sound s ≡ true
   -- of a sound state: a step is accepted exactly when it is enabled, and then does what the source says and leaves a sound state
-  pub upholds : Upholds flatCombine Sound
+  pub upholds : Upholds flat_combine Sound
   -- the source's own proofs, over all of its states: it starts with its invariants, and its transitions keep them
   pub initial : (n : ℕ) → Invariants (source.initialize n)
-  pub inductive : Inductive flatCombine Invariants
+  pub inductive : Inductive flat_combine Invariants
   -- its table: a transition leads somewhere exactly if no line applies
-  pub complete : Complete flatCombine Invariants
+  pub complete : Complete flat_combine Invariants

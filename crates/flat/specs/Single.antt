@@ -9,7 +9,7 @@ use Rattle.schedule.specs.declared.steps.Step.{Step}
 use Rattle.schedule.specs.declared.steps.Step.TheVariants.{Flat, Lock, Counting, Flag}
 use Rattle.flat.specs.Flat.{flat}
 use Rattle.flat.specs.Sound.{sound}
-use Rattle.flat.specs.Image.{entryBytes}
+use Rattle.flat.specs.Image.{entry_bytes}
 use Rattle.flat.specs.declared.state.State.{State}
 use Rattle.flat.specs.declared.single.Answer.{Answer}
 
@@ -25,7 +25,7 @@ abbrev pub answer : State → ℕ → ℕ → Answer
 answer s logged code = record { state = s; place = 0; logged = logged; code = code }
 
 abbrev pub stepper : Stepper flat
-stepper = record { Any = Step; own = own; sound = sound; room = limit.entry; bytes = entryBytes; Answer = Answer; answer = answer }
+stepper = record { Any = Step; own = own; sound = sound; room = limit.entry; bytes = entry_bytes; Answer = Answer; answer = answer }
 
 abbrev pub Singled : State → Step → List ℕ → Answer → List ℕ → Type 0
 Singled s x l r l' = general.Singled stepper s x l r l'

@@ -1,8 +1,8 @@
 // The clients' transitions on one client, shared by the single step and by the replay loop.
 ghost use Rattle.std.specs.Prelude.{◌≡◌};
 ghost use Rattle.machine.specs.Check.{first};
-ghost use Rattle.flat.specs.Flat.{insideTests};
-ghost use Rattle.flat.specs.Moved.{sentClient, receivedClient};
+ghost use Rattle.flat.specs.Flat.{inside_tests};
+ghost use Rattle.flat.specs.Moved.{sent_client, received_client};
 
 use super::state::Client;
 use machine::codes;
@@ -15,7 +15,7 @@ pub struct ClientMoved {
 
 // j is a client of the machine.
 pub fn inside(count: u8, j: u8) -> u8
-    ensures { result ≡ first (insideTests count j) }
+    ensures { result ≡ first (inside_tests count j) }
 {
     if j < count {
         return codes::ACCEPTED;
@@ -25,7 +25,7 @@ pub fn inside(count: u8, j: u8) -> u8
 
 // An idle client leaves a request and sets its slot.
 pub fn client_send(c: Client, rid: u32, req: u32) -> ClientMoved
-    ensures { result ≡ sentClient c rid req }
+    ensures { result ≡ sent_client c rid req }
 {
     if c.waiting {
         return ClientMoved {
@@ -50,7 +50,7 @@ pub fn client_send(c: Client, rid: u32, req: u32) -> ClientMoved
 
 // A waiting client whose slot is clear takes its response.
 pub fn client_recv(c: Client) -> ClientMoved
-    ensures { result ≡ receivedClient c }
+    ensures { result ≡ received_client c }
 {
     if c.waiting {
         if c.slot {

@@ -2,8 +2,8 @@
 // a step does to one client and its element.
 ghost use Rattle.std.specs.Prelude.{◌≡◌};
 ghost use Rattle.machine.specs.Check.{first};
-ghost use Rattle.flat.specs.Flat.{zeroElem, gatherTests, respondTests, answerTests, collectTests, skipTests};
-ghost use Rattle.flat.specs.Moved.{gatheredClient, answeredClient};
+ghost use Rattle.flat.specs.Flat.{zero_elem, gather_tests, respond_tests, answer_tests, collect_tests, skip_tests};
+ghost use Rattle.flat.specs.Moved.{gathered_client, answered_client};
 
 use super::client::ClientMoved;
 use super::state::{Client, Elem};
@@ -11,7 +11,7 @@ use machine::codes;
 
 // combiner_recv and combiner_skip: collecting, and a client is left.
 pub fn may_gather(responding: bool, len: u8, count: u8) -> u8
-    ensures { result ≡ first (gatherTests responding len count) }
+    ensures { result ≡ first (gather_tests responding len count) }
 {
     if responding {
         return codes::PHASE;
@@ -24,7 +24,7 @@ pub fn may_gather(responding: bool, len: u8, count: u8) -> u8
 
 // combiner_go_to_responding: collecting, and no client is left.
 pub fn may_respond(responding: bool, len: u8, count: u8) -> u8
-    ensures { result ≡ first (respondTests responding len count) }
+    ensures { result ≡ first (respond_tests responding len count) }
 {
     if responding {
         return codes::PHASE;
@@ -37,7 +37,7 @@ pub fn may_respond(responding: bool, len: u8, count: u8) -> u8
 
 // combiner_send and combiner_send_skip: responding, and an element is left.
 pub fn may_answer(responding: bool, idx: u8, count: u8) -> u8
-    ensures { result ≡ first (answerTests responding idx count) }
+    ensures { result ≡ first (answer_tests responding idx count) }
 {
     if responding {
         if idx < count {
@@ -50,7 +50,7 @@ pub fn may_answer(responding: bool, idx: u8, count: u8) -> u8
 
 // combiner_go_to_collecting: responding, and no element is left.
 pub fn may_collect(responding: bool, idx: u8, count: u8) -> u8
-    ensures { result ≡ first (collectTests responding idx count) }
+    ensures { result ≡ first (collect_tests responding idx count) }
 {
     if responding {
         if idx == count {
@@ -62,7 +62,7 @@ pub fn may_collect(responding: bool, idx: u8, count: u8) -> u8
 }
 
 pub fn no_elem() -> Elem
-    ensures { result ≡ zeroElem }
+    ensures { result ≡ zero_elem }
 {
     Elem {
         rid: 0,
@@ -80,7 +80,7 @@ pub struct Gathered {
 
 // combiner_recv: the request is withdrawn and its id kept. The slot stays set.
 pub fn combiner_recv(c: Client) -> Gathered
-    ensures { result ≡ gatheredClient c }
+    ensures { result ≡ gathered_client c }
 {
     if c.slot {
         if c.asked {
@@ -118,7 +118,7 @@ pub fn combiner_recv(c: Client) -> Gathered
 
 // combiner_send: the element is this very id; the response is left and the slot cleared.
 pub fn combiner_send(c: Client, e: Elem, rid: u32, resp: u32) -> ClientMoved
-    ensures { result ≡ answeredClient c e rid resp }
+    ensures { result ≡ answered_client c e rid resp }
 {
     if e.present {
         if rid == e.rid {
@@ -149,7 +149,7 @@ pub fn combiner_send(c: Client, e: Elem, rid: u32, resp: u32) -> ClientMoved
 
 // combiner_send_skip: the element holds no id.
 pub fn may_skip(e: Elem) -> u8
-    ensures { result ≡ first (skipTests e) }
+    ensures { result ≡ first (skip_tests e) }
 {
     if e.present {
         return codes::ELEMENT;

@@ -1,6 +1,6 @@
 // What an accepted step logs, and its bytes.
 ghost use Rattle.rows.specs.Stores.{Laid};
-ghost use Rattle.flat.specs.Image.{entryBytes};
+ghost use Rattle.flat.specs.Image.{entry_bytes};
 
 #[derive(Drop)]
 pub enum Entry {
@@ -10,7 +10,7 @@ pub enum Entry {
 
 // The entry's bytes at a place of the log, all or nothing; the answer is the place after them.
 pub fn put_entry(log: &mut [u8], at: usize, j: u8, rid: u32, resp: u32) -> usize
-    ensures { Laid log.old at (entryBytes (Entry.Answer j rid resp)) result log.new }
+    ensures { Laid log.old at (entry_bytes (Entry.Answer j rid resp)) result log.new }
 {
     if log.len() < 10 {
         return at;

@@ -3,7 +3,7 @@ ghost use Rattle.std.specs.Prelude.{◌≡◌, true, ◌≤◌, ◌<◌, length}
 ghost use Rattle.schedule.specs.Limits as limit;
 ghost use Rattle.schedule.specs.declared.steps.FlatStep.TheVariants.{ClientSend, ClientRecv, CombinerRecv, CombinerSkip, CombinerGoToResponding};
 ghost use Rattle.schedule.specs.declared.steps.FlatStep.TheVariants.{CombinerSend, CombinerSendSkip, CombinerGoToCollecting};
-ghost use Rattle.flat.specs.Flat.{withClient};
+ghost use Rattle.flat.specs.Flat.{with_client};
 ghost use Rattle.flat.specs.Sound as test;
 ghost use Rattle.flat.specs.Single.{Singled, Applied, quietly, answer};
 
@@ -230,7 +230,7 @@ fn combiner_go_to_collecting(s: State) -> Answer
 
 fn with_client(s: State, i: usize, m: ClientMoved, logged: usize) -> Answer
     requires { i < limit.clients }
-    ensures { result ≡ answer (withClient s i m.client) logged m.code }
+    ensures { result ≡ answer (with_client s i m.client) logged m.code }
 {
     let c = m.client;
     let mut after = s;

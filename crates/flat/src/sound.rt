@@ -1,7 +1,7 @@
 // The test of a made-up state: one walk over the clients, each with its element.
 ghost use Rattle.std.specs.Prelude.{◌≡◌};
 ghost use Rattle.rows.specs.Walk.{every};
-ghost use Rattle.flat.specs.Sound.{sound, combinerSound, placeSound, placeSoundAt, heldFrom, clientSound, elemSound, isGathered, isAsking, isAnswered, isResting};
+ghost use Rattle.flat.specs.Sound.{sound, combiner_sound, place_sound, place_sound_at, held_from, client_sound, elem_sound, is_gathered, is_asking, is_answered, is_resting};
 
 use super::state::{Client, Elem, State};
 use schedule::limits;
@@ -17,7 +17,7 @@ pub fn is_sound(s: State) -> bool
 
 // Clients in their limits; collecting with the cursor at rest, or responding with all gathered.
 fn combiner_sound(count: u8, len: u8, idx: u8, responding: bool) -> bool
-    ensures { result ≡ combinerSound count len idx responding }
+    ensures { result ≡ combiner_sound count len idx responding }
 {
     if limits::CLIENTS < count as usize {
         return false;
@@ -35,7 +35,7 @@ fn combiner_sound(count: u8, len: u8, idx: u8, responding: bool) -> bool
 }
 
 fn places_sound(s: State) -> bool
-    ensures { result ≡ every (placeSound s) 0 s.clients }
+    ensures { result ≡ every (place_sound s) 0 s.clients }
 {
     let mut j: usize = 0;
     while j < limits::CLIENTS {
@@ -51,7 +51,7 @@ fn places_sound(s: State) -> bool
 }
 
 fn place_sound(j: usize, count: u8, len: u8, idx: u8, c: Client, e: Elem) -> bool
-    ensures { result ≡ placeSoundAt j count len idx c e }
+    ensures { result ≡ place_sound_at j count len idx c e }
 {
     if elem_sound(j, len, e) {
         return client_sound(j, count, held(j, len, idx, e), c, e);
@@ -61,7 +61,7 @@ fn place_sound(j: usize, count: u8, len: u8, idx: u8, c: Client, e: Elem) -> boo
 
 // An element that was not gathered is zero, and so is the id of an empty one.
 fn elem_sound(j: usize, len: u8, e: Elem) -> bool
-    ensures { result ≡ elemSound j len e }
+    ensures { result ≡ elem_sound j len e }
 {
     if e.present {
         return j < len as usize;
@@ -71,7 +71,7 @@ fn elem_sound(j: usize, len: u8, e: Elem) -> bool
 
 // The combiner has the client's id: gathered, and not answered yet.
 fn held(j: usize, len: u8, idx: u8, e: Elem) -> bool
-    ensures { result ≡ heldFrom j len idx e }
+    ensures { result ≡ held_from j len idx e }
 {
     if e.present {
         if j < len as usize {
@@ -84,7 +84,7 @@ fn held(j: usize, len: u8, idx: u8, e: Elem) -> bool
 
 // A client rests, has asked, is held by the combiner, or was told.
 fn client_sound(j: usize, count: u8, has: bool, c: Client, e: Elem) -> bool
-    ensures { result ≡ clientSound j count has c e }
+    ensures { result ≡ client_sound j count has c e }
 {
     if c.waiting {
         if count as usize <= j {
@@ -109,7 +109,7 @@ fn client_sound(j: usize, count: u8, has: bool, c: Client, e: Elem) -> bool
 
 // Waiting, its request withdrawn by the combiner.
 fn gathered(c: Client) -> bool
-    ensures { result ≡ isGathered c }
+    ensures { result ≡ is_gathered c }
 {
     if c.asked {
         return false;
@@ -128,7 +128,7 @@ fn gathered(c: Client) -> bool
 
 // Waiting, its request stored.
 fn asking(c: Client) -> bool
-    ensures { result ≡ isAsking c }
+    ensures { result ≡ is_asking c }
 {
     if c.told {
         return false;
@@ -141,7 +141,7 @@ fn asking(c: Client) -> bool
 
 // Waiting, its response stored and its slot clear.
 fn answered(c: Client) -> bool
-    ensures { result ≡ isAnswered c }
+    ensures { result ≡ is_answered c }
 {
     if c.slot {
         return false;
@@ -154,7 +154,7 @@ fn answered(c: Client) -> bool
 
 // Idle: all zeros.
 fn resting(c: Client) -> bool
-    ensures { result ≡ isResting c }
+    ensures { result ≡ is_resting c }
 {
     if c.asked {
         return false;

@@ -4,8 +4,8 @@ ghost use Rattle.rows.specs.Stores.{Laid};
 ghost use Rattle.rows.specs.Walk.{pieces};
 ghost use Rattle.rows.specs.Mask as slots;
 ghost use Rattle.schedule.specs.Limits as limit;
-ghost use Rattle.flat.specs.Flat.{freshState, fresh_of};
-ghost use Rattle.flat.specs.Image.{imageBytes, clientBytes, messageBytes, elemBytes, combinerBytes, slot_of, inUse, messageLong, clientLong, combinerLong, elemLong};
+ghost use Rattle.flat.specs.Flat.{fresh_state, fresh_of};
+ghost use Rattle.flat.specs.Image.{image_bytes, client_bytes, message_bytes, elem_bytes, combiner_bytes, slot_of, in_use, message_long, client_long, combiner_long, elem_long};
 
 use machine::codes;
 use schedule::limits;
@@ -59,7 +59,7 @@ pub fn fresh(clients: u8) -> Made
 
 // All idle, slots clear, collecting, nothing gathered.
 fn idle(count: u8, code: u8) -> Made
-    ensures { result ≡ record { state = freshState count; code = code } }
+    ensures { result ≡ record { state = fresh_state count; code = code } }
 {
     let client = Client {
         rid: 0,
@@ -98,7 +98,7 @@ const ELEM: usize = 5;
 
 // The image at the front of the buffer, or nothing where it does not fit; the answer is its length.
 pub fn image(s: State, out: &mut [u8]) -> usize
-    ensures { Laid out.old 0 (imageBytes s) result out.new }
+    ensures { Laid out.old 0 (image_bytes s) result out.new }
 {
     let n = in_use(s.count);
     let g = in_use(s.len);
@@ -112,7 +112,7 @@ pub fn image(s: State, out: &mut [u8]) -> usize
 
 // How many of the row are in use; in a made-up state no more than there are.
 fn in_use(count: u8) -> usize
-    ensures value { result ≡ inUse count }
+    ensures value { result ≡ in_use count }
     ensures upper_bound { result ≤ limit.clients }
 {
     let n = count as usize;
@@ -130,8 +130,8 @@ fn shown(there: bool, x: u32) -> u32
 }
 
 fn put_client(out: &mut [u8], at: usize, c: Client) -> usize
-    requires { at + clientLong ≤ length out.old }
-    ensures { Laid out.old at (clientBytes c) result out.new }
+    requires { at + client_long ≤ length out.old }
+    ensures { Laid out.old at (client_bytes c) result out.new }
 {
     let p = rows::put1(out, at, c.waiting as u8);
     let q = rows::put4(out, p, c.rid);
@@ -141,8 +141,8 @@ fn put_client(out: &mut [u8], at: usize, c: Client) -> usize
 
 // A request or a response: present, id, payload, absent as zeros.
 fn put_message(out: &mut [u8], at: usize, there: bool, rid: u32, load: u32) -> usize
-    requires { at + messageLong ≤ length out.old }
-    ensures { Laid out.old at (messageBytes there rid load) result out.new }
+    requires { at + message_long ≤ length out.old }
+    ensures { Laid out.old at (message_bytes there rid load) result out.new }
 {
     let p = rows::put1(out, at, there as u8);
     let q = rows::put4(out, p, shown(there, rid));
@@ -152,8 +152,8 @@ fn put_message(out: &mut [u8], at: usize, there: bool, rid: u32, load: u32) -> u
 // The first n clients from a place of the buffer on.
 fn put_clients(out: &mut [u8], at: usize, s: State, n: usize) -> usize
     requires n_le_clients { n ≤ limit.clients }
-    requires n_in_bounds { at + clientLong * n ≤ length out.old }
-    ensures { Laid out.old at (pieces clientBytes (take n s.clients)) result out.new }
+    requires n_in_bounds { at + client_long * n ≤ length out.old }
+    ensures { Laid out.old at (pieces client_bytes (take n s.clients)) result out.new }
 {
     let mut i: usize = 0;
     let mut p = at;
@@ -180,8 +180,8 @@ fn mask(s: State) -> u16
 }
 
 fn put_combiner(out: &mut [u8], at: usize, s: State) -> usize
-    requires { at + combinerLong ≤ length out.old }
-    ensures { Laid out.old at (combinerBytes s) result out.new }
+    requires { at + combiner_long ≤ length out.old }
+    ensures { Laid out.old at (combiner_bytes s) result out.new }
 {
     let p = rows::put2(out, at, mask(s));
     let q = rows::put1(out, p, s.responding as u8);
@@ -192,8 +192,8 @@ fn put_combiner(out: &mut [u8], at: usize, s: State) -> usize
 // The first n elements from a place of the buffer on.
 fn put_elems(out: &mut [u8], at: usize, s: State, n: usize) -> usize
     requires n_le_clients { n ≤ limit.clients }
-    requires n_in_bounds { at + elemLong * n ≤ length out.old }
-    ensures { Laid out.old at (pieces elemBytes (take n s.elems)) result out.new }
+    requires n_in_bounds { at + elem_long * n ≤ length out.old }
+    ensures { Laid out.old at (pieces elem_bytes (take n s.elems)) result out.new }
 {
     let mut i: usize = 0;
     let mut p = at;
@@ -206,8 +206,8 @@ fn put_elems(out: &mut [u8], at: usize, s: State, n: usize) -> usize
 }
 
 fn put_elem(out: &mut [u8], at: usize, e: Elem) -> usize
-    requires { at + elemLong ≤ length out.old }
-    ensures { Laid out.old at (elemBytes e) result out.new }
+    requires { at + elem_long ≤ length out.old }
+    ensures { Laid out.old at (elem_bytes e) result out.new }
 {
     let p = rows::put1(out, at, e.present as u8);
     rows::put4(out, p, e.rid)

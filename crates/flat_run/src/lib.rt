@@ -1,10 +1,10 @@
 // The replay of a flat combiner file: its steps run one by one on a state that stays in place.
 ghost use Rattle.std.specs.Prelude.{length};
 ghost use Rattle.schedule.specs.Answers.{Leaves};
-ghost use Rattle.schedule.specs.Running.{Counts, Runnable, Ended, restRun};
+ghost use Rattle.schedule.specs.Running.{Counts, Runnable, Ended, rest_run};
 ghost use Rattle.schedule.specs.Widths as kind;
 ghost use Rattle.flat.specs.Refined.{Sound};
-ghost use Rattle.flat_run.specs.Run.{runner, leftBy, restOfFile};
+ghost use Rattle.flat_run.specs.Run.{runner, left_by, rest_of_file};
 
 use flat::state::State;
 use flat::{client, combiner, entry, state};
@@ -26,7 +26,7 @@ pub struct Ran {
 // The next n steps of a file on a state, their entries into the log from `used` on.
 fn run(file: &[u8], from: usize, n: usize, start: State, log: &mut [u8], used: usize) -> Ran
     requires { Runnable runner file.now from n start used (length log.old) }
-    ensures { Ended runner file.now from n start log.old used (leftBy result log.new) }
+    ensures { Ended runner file.now from n start log.old used (left_by result log.new) }
 {
     let mut s = start;
     let mut at = from;
@@ -248,7 +248,7 @@ fn run(file: &[u8], from: usize, n: usize, start: State, log: &mut [u8], used: u
 
 // The rest of a flat combiner file from a place on: a machine made of its parameters, its steps counted, the room tested, then run.
 pub fn rest(file: &[u8], from: usize, clients: u8, log: &mut [u8], image: &mut [u8]) -> Answer
-    ensures { Leaves (restOfFile file.now from clients log.old image.old) result log.new image.new }
+    ensures { Leaves (rest_of_file file.now from clients log.old image.old) result log.new image.new }
 {
     let made = state::fresh(clients);
     if made.code != 0 {
@@ -272,7 +272,7 @@ fn replayed(
 ) -> Answer
     requires counts { Counts kind.flat file.now from n }
     requires sound { Sound start }
-    ensures { Leaves (restRun runner start file.now from log.old image.old) result log.new image.new }
+    ensures { Leaves (rest_run runner start file.now from log.old image.old) result log.new image.new }
 {
     if log.len() < n * limits::ENTRY {
         return answer::refused(codes::ROOM, 0);

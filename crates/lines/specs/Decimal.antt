@@ -7,12 +7,12 @@ digits zero n = []
 digits (suc k) n = digits k (n / 10) ++ ((48 + n % 10) ∷ [])
 
 -- how many digits n has: one, and one more for each time that it can be divided by ten, of which n times are always enough
-unfoldable pub digitCountUpTo : ℕ → ℕ → ℕ
-digitCountUpTo zero n = 1
-digitCountUpTo (suc times) n = cond (ltb 9 n) (suc (digitCountUpTo times (n / 10))) 1
+unfoldable pub digit_count_up_to : ℕ → ℕ → ℕ
+digit_count_up_to zero n = 1
+digit_count_up_to (suc times) n = cond (ltb 9 n) (suc (digit_count_up_to times (n / 10))) 1
 
-abbrev pub digitCount : ℕ → ℕ
-digitCount n = digitCountUpTo n n
+abbrev pub digit_count : ℕ → ℕ
+digit_count n = digit_count_up_to n n
 
 abbrev pub decimal : ℕ → List ℕ
-decimal n = digits (digitCount n) n
+decimal n = digits (digit_count n) n

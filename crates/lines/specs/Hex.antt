@@ -6,10 +6,10 @@ use Rattle.rows.specs.Walk.{pieces}
 abbrev pub glyph : ℕ → ℕ
 glyph d = cond (ltb d 10) (48 + d) (55 + d)
 
-abbrev pub hexByte : ℕ → List ℕ
-hexByte b = glyph (b / 16) ∷ glyph (b % 16) ∷ []
+abbrev pub hex_byte : ℕ → List ℕ
+hex_byte b = glyph (b / 16) ∷ glyph (b % 16) ∷ []
 
 -- a hyphen where there are none
 abbrev pub shown : List ℕ → List ℕ
 shown [] = 45 ∷ []
-shown (b ∷ bs) = pieces hexByte (b ∷ bs)
+shown (b ∷ bs) = pieces hex_byte (b ∷ bs)

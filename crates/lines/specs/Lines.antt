@@ -7,24 +7,24 @@ use Rattle.lines.specs.Decimal.{decimal}
 use Rattle.lines.specs.Hex.{shown}
 
 -- the fixed words, in ASCII: "verdict ", " at ", a line end and "log ", a line end and "state ", a line end
-abbrev pub verdictWord : List ℕ
-verdictWord = 118 ∷ 101 ∷ 114 ∷ 100 ∷ 105 ∷ 99 ∷ 116 ∷ 32 ∷ []
+abbrev pub verdict_word : List ℕ
+verdict_word = 118 ∷ 101 ∷ 114 ∷ 100 ∷ 105 ∷ 99 ∷ 116 ∷ 32 ∷ []
 
-abbrev pub atWord : List ℕ
-atWord = 32 ∷ 97 ∷ 116 ∷ 32 ∷ []
+abbrev pub at_word : List ℕ
+at_word = 32 ∷ 97 ∷ 116 ∷ 32 ∷ []
 
-abbrev pub logWord : List ℕ
-logWord = 10 ∷ 108 ∷ 111 ∷ 103 ∷ 32 ∷ []
+abbrev pub log_word : List ℕ
+log_word = 10 ∷ 108 ∷ 111 ∷ 103 ∷ 32 ∷ []
 
-abbrev pub stateWord : List ℕ
-stateWord = 10 ∷ 115 ∷ 116 ∷ 97 ∷ 116 ∷ 101 ∷ 32 ∷ []
+abbrev pub state_word : List ℕ
+state_word = 10 ∷ 115 ∷ 116 ∷ 97 ∷ 116 ∷ 101 ∷ 32 ∷ []
 
-abbrev pub lineEnd : List ℕ
-lineEnd = 10 ∷ []
+abbrev pub line_end : List ℕ
+line_end = 10 ∷ []
 
 -- verdict C at P
-abbrev pub verdictLine : ℕ → ℕ → List ℕ
-verdictLine code place = verdictWord ++ (decimal code ++ (atWord ++ decimal place))
+abbrev pub verdict_line : ℕ → ℕ → List ℕ
+verdict_line code place = verdict_word ++ (decimal code ++ (at_word ++ decimal place))
 
 -- the first n bytes in hexadecimal digits, `-` where nothing was written, behind the line's name
 abbrev pub row_line : List ℕ → ℕ → List ℕ → List ℕ
@@ -32,29 +32,29 @@ row_line name n bytes = name ++ shown (take n bytes)
 
 abbrev pub lines_of : Answer → List ℕ → List ℕ → List ℕ
 lines_of a log image =
-    verdictLine a.code a.place ++ (row_line logWord a.logged log ++ (row_line stateWord a.imaged image ++ lineEnd))
+    verdict_line a.code a.place ++ (row_line log_word a.logged log ++ (row_line state_word a.imaged image ++ line_end))
 
 -- the most bytes of a first line: its words, a code of 3 digits and a place of 20
-abbrev pub longestVerdict : ℕ
-longestVerdict = 35
+abbrev pub longest_verdict : ℕ
+longest_verdict = 35
 
 -- the longest log that a file has, and the most bytes that the lines can take
-abbrev pub longestLog : ℕ
-longestLog = limit.steps * limit.entry
+abbrev pub longest_log : ℕ
+longest_log = limit.steps * limit.entry
 
 abbrev pub most : ℕ
-most = 2 * (longestLog + limit.image) + 50
+most = 2 * (longest_log + limit.image) + 50
 
-unfoldable pub linesIn : ℕ → Answer → List ℕ → List ℕ → List ℕ
-linesIn room a log image =
+unfoldable pub lines_in : ℕ → Answer → List ℕ → List ℕ → List ℕ
+lines_in room a log image =
     cond (ltb room most) []
-    (cond (ltb longestLog (length log)) []
+    (cond (ltb longest_log (length log)) []
     (cond (ltb limit.image (length image)) []
     (lines_of a log image)))
 
 pub record Written (out : List ℕ) (a : Answer) (log image : List ℕ) (r : ℕ) (out' : List ℕ) : Type 0 where
-  pub count : r ≡ length (linesIn (length out) a log image)
-  pub bytes : out' ≡ over (linesIn (length out) a log image) out
+  pub count : r ≡ length (lines_in (length out) a log image)
+  pub bytes : out' ≡ over (lines_in (length out) a log image) out
 
 -- the first r bytes of a buffer are there. The second part follows from the first; both stand so that `&buffer[..r]` needs no proof of its caller's
 abbrev pub InFront : ℕ → List ℕ → Type 0

@@ -1,7 +1,7 @@
 // A number in decimal digits, no zero in front.
 ghost use Rattle.std.specs.Prelude.{◌≡◌, ◌+◌, ◌≤◌, length};
 ghost use Rattle.rows.specs.Stores.{Laid};
-ghost use Rattle.lines.specs.Decimal.{digitCount, digits, decimal};
+ghost use Rattle.lines.specs.Decimal.{digit_count, digits, decimal};
 
 // The digits at a place of the buffer, all or nothing; the answer is the place after them.
 pub fn put_decimal(out: &mut [u8], at: usize, n: usize) -> usize
@@ -19,7 +19,7 @@ pub fn put_decimal(out: &mut [u8], at: usize, n: usize) -> usize
 
 // How many digits n has.
 fn digit_count(n: usize) -> usize
-    ensures value { result ≡ digitCount n }
+    ensures value { result ≡ digit_count n }
     ensures upper_bound { result ≤ 20 }
 {
     let mut k: usize = 1;

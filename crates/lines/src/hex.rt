@@ -2,7 +2,7 @@
 ghost use Rattle.std.specs.Prelude.{◌≡◌, cond, ltb, ◌+◌, ◌≤◌, ◌<◌, length, take};
 ghost use Rattle.rows.specs.Stores.{Laid};
 ghost use Rattle.rows.specs.Walk.{pieces};
-ghost use Rattle.lines.specs.Hex.{glyph, hexByte, shown};
+ghost use Rattle.lines.specs.Hex.{glyph, hex_byte, shown};
 
 // The first n bytes, or all where there are fewer, at a place of the buffer, all or nothing; the answer is the place after them.
 pub fn put_shown(out: &mut [u8], at: usize, bytes: &[u8], n: usize) -> usize
@@ -27,7 +27,7 @@ fn least(a: usize, b: usize) -> usize
 // The digits of the first m bytes, all or nothing.
 fn put_hex(out: &mut [u8], at: usize, bytes: &[u8], m: usize) -> usize
     requires { m ≤ length bytes.now }
-    ensures { Laid out.old at (pieces hexByte (take m bytes.now)) result out.new }
+    ensures { Laid out.old at (pieces hex_byte (take m bytes.now)) result out.new }
 {
     if out.len() < at {
         return at;
@@ -46,7 +46,7 @@ fn put_hex(out: &mut [u8], at: usize, bytes: &[u8], m: usize) -> usize
 
 fn put_byte(out: &mut [u8], at: usize, b: u8) -> usize
     requires { at + 2 ≤ length out.old }
-    ensures { Laid out.old at (hexByte b) result out.new }
+    ensures { Laid out.old at (hex_byte b) result out.new }
 {
     let p = rows::put1(out, at, digit(b / 16));
     rows::put1(out, p, digit(b % 16))

@@ -1,7 +1,7 @@
 // The three lines: the verdict with its place, the log, the state.
 ghost use Rattle.std.specs.Prelude.{◌+◌, ◌*◌, ◌≤◌, length};
 ghost use Rattle.rows.specs.Stores.{Laid};
-ghost use Rattle.lines.specs.Lines.{verdictLine, row_line, longestVerdict, Written, InFront};
+ghost use Rattle.lines.specs.Lines.{verdict_line, row_line, longest_verdict, Written, InFront};
 
 use super::{decimal, hex};
 use schedule::answer::Answer;
@@ -42,9 +42,9 @@ fn write_lines(out: &mut [u8], answer: Answer, log: &[u8], image: &[u8]) -> usiz
 
 // The first line, without its end, which never takes more than the room asked for.
 fn put_verdict(out: &mut [u8], code: u8, place: usize) -> usize
-    requires { longestVerdict ≤ length out.old }
-    ensures laid { Laid out.old 0 (verdictLine code place) result out.new }
-    ensures place_len_bound { length (verdictLine code place) ≤ longestVerdict }
+    requires { longest_verdict ≤ length out.old }
+    ensures laid { Laid out.old 0 (verdict_line code place) result out.new }
+    ensures place_len_bound { length (verdict_line code place) ≤ longest_verdict }
 {
     let a = rows::put(out, 0, b"verdict ");
     let b = decimal::put_decimal(out, a, code as usize);

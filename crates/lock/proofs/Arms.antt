@@ -6,33 +6,33 @@ use lib.Dec.{ltb}
 use lib.Seq.{set-get_or}
 use Rattle.machine.specs.Check.{first}
 use Rattle.machine.specs.Machine.{code_of}
-use Rattle.machine.proofs.Checks.{rises-append, first_past, first-stop}
+use Rattle.machine.proofs.Checks.{rises_append, first_past, first_stop}
 use Rattle.machine.proofs.Fair.{Fair, fair}
 use Rattle.schedule.specs.Limits as limit
 use Rattle.schedule.specs.declared.steps.LockStep.{LockStep}
 use Rattle.schedule.specs.declared.steps.LockStep.TheVariants.{ExcStart, ExcCheckCount, ExcFinish, ExcRelease, SharedStart, SharedFinish, SharedRelease}
-use Rattle.lock.specs.Lock.{lock, rising, zeroCell, cell, with_head, withCell}
-use Rattle.lock.specs.Lock.{headTests, cellTests}
-use Rattle.lock.specs.Lock.{excStartTests, excCheckCountTests, excFinishTests, excReleaseTests, insideTests, sharedFinishTests}
-use Rattle.lock.specs.Lock.{emptyTests, roomTests, pendingTests, guardTests}
-use Rattle.lock.specs.Lock.{excStarted, excChecked, excFinished, excReleased, sharedStarted, sharedFinished, sharedReleased}
-use Rattle.lock.specs.Moved.{startedHead, checkedHead, finishedHead, releasedHead, startedCell, finishedCell, releasedCell}
+use Rattle.lock.specs.Lock.{lock, rising, zero_cell, cell, with_head, with_cell}
+use Rattle.lock.specs.Lock.{head_tests, cell_tests}
+use Rattle.lock.specs.Lock.{exc_start_tests, exc_check_count_tests, exc_finish_tests, exc_release_tests, inside_tests, shared_finish_tests}
+use Rattle.lock.specs.Lock.{empty_tests, room_tests, pending_tests, guard_tests}
+use Rattle.lock.specs.Lock.{exc_started, exc_checked, exc_finished, exc_released, shared_started, shared_finished, shared_released}
+use Rattle.lock.specs.Moved.{started_head, checked_head, finished_head, released_head, started_cell, finished_cell, released_cell}
 use Rattle.lock.specs.Sound.{sound}
 use Rattle.lock.specs.declared.state.State.{State}
 use Rattle.lock.specs.declared.writer.HeadMoved.{HeadMoved}
 use Rattle.lock.specs.declared.reader.CellMoved.{CellMoved}
-use Rattle.lock.proofs.Moved.{exc-check-count-fits, shared-start-fits, shared-finish-fits, shared-release-fits}
+use Rattle.lock.proofs.Moved.{exc_check_count_fits, shared_start_fits, shared_finish_fits, shared_release_fits}
 
 -- ---------- the tests on the head, which come first
 
-module _ (s : State) (x : LockStep) (a : ℕ) (e : a ≡ first (headTests s x)) where
+module _ (s : State) (x : LockStep) (a : ℕ) (e : a ≡ first (head_tests s x)) where
   -- one fails, and decides
   pub stopped : (a ≡ 0 → ⊥) → a ≡ code_of lock s x
-  stopped n = e ∙ first-stop (headTests s x) (cellTests s x) (λ z. n (e ∙ z))
+  stopped n = e ∙ first_stop (head_tests s x) (cell_tests s x) (λ z. n (e ∙ z))
 
   -- they hold, so those on the cell decide
-  decided : a ≡ 0 → code_of lock s x ≡ first (cellTests s x)
-  decided z = first_past (headTests s x) (cellTests s x) (rises-append 1 (headTests s x) (cellTests s x) (rising s x)) (sym e ∙ z)
+  decided : a ≡ 0 → code_of lock s x ≡ first (cell_tests s x)
+  decided z = first_past (head_tests s x) (cell_tests s x) (rises_append 1 (head_tests s x) (cell_tests s x) (rising s x)) (sym e ∙ z)
 
 -- ---------- the writer
 
@@ -40,48 +40,48 @@ module _ (s : State) (m : HeadMoved) where
   abbrev Heads : LockStep → Type 0
   Heads x = Fair lock s x m.code (with_head s m.head)
 
-  pub exc-start-fair : m ≡ startedHead s.head → Heads ExcStart
-  exc-start-fair e = rw e (fair lock s ExcStart (with_head s) (excStartTests s.head) true (excStarted s.head) s.head refl (λ z. refl) refl refl)
+  pub exc_start_fair : m ≡ started_head s.head → Heads ExcStart
+  exc_start_fair e = rw e (fair lock s ExcStart (with_head s) (exc_start_tests s.head) true (exc_started s.head) s.head refl (λ z. refl) refl refl)
 
-  pub exc-check-count-fair : m ≡ checkedHead s.head (cell s s.head.cursor) → sound s ≡ true → (a : ℕ) → a ≡ first (excCheckCountTests s.head) → a ≡ 0
+  pub exc_check_count_fair : m ≡ checked_head s.head (cell s s.head.cursor) → sound s ≡ true → (a : ℕ) → a ≡ first (exc_check_count_tests s.head) → a ≡ 0
       → Heads ExcCheckCount
-  exc-check-count-fair e safe a p z =
+  exc_check_count_fair e safe a p z =
       rw e
-      (fair lock s ExcCheckCount (with_head s) (emptyTests (cell s s.head.cursor)) (ltb s.head.cursor limit.counter) (excChecked s.head) s.head
-      (decided s ExcCheckCount a p z) (λ y. exc-check-count-fits s safe a p z) refl refl)
+      (fair lock s ExcCheckCount (with_head s) (empty_tests (cell s s.head.cursor)) (ltb s.head.cursor limit.counter) (exc_checked s.head) s.head
+      (decided s ExcCheckCount a p z) (λ y. exc_check_count_fits s safe a p z) refl refl)
 
-  pub exc-finish-fair : m ≡ finishedHead s.head → Heads ExcFinish
-  exc-finish-fair e = rw e (fair lock s ExcFinish (with_head s) (excFinishTests s.head) true (excFinished s.head) s.head refl (λ z. refl) refl refl)
+  pub exc_finish_fair : m ≡ finished_head s.head → Heads ExcFinish
+  exc_finish_fair e = rw e (fair lock s ExcFinish (with_head s) (exc_finish_tests s.head) true (exc_finished s.head) s.head refl (λ z. refl) refl refl)
 
-  pub exc-release-fair : (t : ℕ) → m ≡ releasedHead s.head t → Heads (ExcRelease t)
-  exc-release-fair t e =
-      rw e (fair lock s (ExcRelease t) (with_head s) (excReleaseTests s.head) true (excReleased s.head t) s.head refl (λ z. refl) refl refl)
+  pub exc_release_fair : (t : ℕ) → m ≡ released_head s.head t → Heads (ExcRelease t)
+  exc_release_fair t e =
+      rw e (fair lock s (ExcRelease t) (with_head s) (exc_release_tests s.head) true (exc_released s.head t) s.head refl (λ z. refl) refl refl)
 
 -- ---------- the readers
 
 module _ (s : State) (r : ℕ) (m : CellMoved) where
   abbrev Cells : LockStep → Type 0
-  Cells x = Fair lock s x m.code (withCell s r m.cell)
+  Cells x = Fair lock s x m.code (with_cell s r m.cell)
 
   -- the cell as it was
-  same-cell : withCell s r (cell s r) ≡ s
-  same-cell = rw (set-get_or s.cells r zeroCell)
+  same_cell : with_cell s r (cell s r) ≡ s
+  same_cell = rw (set-get_or s.cells r zero_cell)
 
-  pub shared-start-fair : m ≡ startedCell (cell s r) → sound s ≡ true → (a : ℕ) → a ≡ first (insideTests s.head r) → a ≡ 0 → Cells (SharedStart r)
-  shared-start-fair e safe a p z =
+  pub shared_start_fair : m ≡ started_cell (cell s r) → sound s ≡ true → (a : ℕ) → a ≡ first (inside_tests s.head r) → a ≡ 0 → Cells (SharedStart r)
+  shared_start_fair e safe a p z =
       rw e
-      (fair lock s (SharedStart r) (withCell s r) (roomTests (cell s r)) (ltb (cell s r).pending limit.counter) (sharedStarted (cell s r)) (cell s r)
-      (decided s (SharedStart r) a p z) (shared-start-fits s safe r) refl same-cell)
+      (fair lock s (SharedStart r) (with_cell s r) (room_tests (cell s r)) (ltb (cell s r).pending limit.counter) (shared_started (cell s r)) (cell s r)
+      (decided s (SharedStart r) a p z) (shared_start_fits s safe r) refl same_cell)
 
-  pub shared-finish-fair : m ≡ finishedCell (cell s r) → sound s ≡ true → (a : ℕ) → a ≡ first (sharedFinishTests s.head r) → a ≡ 0 → Cells (SharedFinish r)
-  shared-finish-fair e safe a p z =
+  pub shared_finish_fair : m ≡ finished_cell (cell s r) → sound s ≡ true → (a : ℕ) → a ≡ first (shared_finish_tests s.head r) → a ≡ 0 → Cells (SharedFinish r)
+  shared_finish_fair e safe a p z =
       rw e
-      (fair lock s (SharedFinish r) (withCell s r) (pendingTests (cell s r)) (ltb (cell s r).guards limit.counter) (sharedFinished (cell s r)) (cell s r)
-      (decided s (SharedFinish r) a p z) (shared-finish-fits s safe r) refl same-cell)
+      (fair lock s (SharedFinish r) (with_cell s r) (pending_tests (cell s r)) (ltb (cell s r).guards limit.counter) (shared_finished (cell s r)) (cell s r)
+      (decided s (SharedFinish r) a p z) (shared_finish_fits s safe r) refl same_cell)
 
-  pub shared-release-fair : (t : ℕ) → m ≡ releasedCell s.head (cell s r) t → sound s ≡ true → (a : ℕ) → a ≡ first (insideTests s.head r) → a ≡ 0
+  pub shared_release_fair : (t : ℕ) → m ≡ released_cell s.head (cell s r) t → sound s ≡ true → (a : ℕ) → a ≡ first (inside_tests s.head r) → a ≡ 0
       → Cells (SharedRelease r t)
-  shared-release-fair t e safe a p z =
+  shared_release_fair t e safe a p z =
       rw e
-      (fair lock s (SharedRelease r t) (withCell s r) (guardTests s.head (cell s r) t) (ltb 0 (cell s r).count) (sharedReleased (cell s r)) (cell s r)
-      (decided s (SharedRelease r t) a p z) (shared-release-fits s safe r t) refl same-cell)
+      (fair lock s (SharedRelease r t) (with_cell s r) (guard_tests s.head (cell s r) t) (ltb 0 (cell s r).count) (shared_released (cell s r)) (cell s r)
+      (decided s (SharedRelease r t) a p z) (shared_release_fits s safe r t) refl same_cell)

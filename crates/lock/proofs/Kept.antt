@@ -8,39 +8,39 @@ use lib.Dec.{eqb, ltb}
 use lib.ListN.{length-set}
 use borrow.Author.Tests.{eqb-true, eqb-false, ltb-true, ltb-false, lt-ltb, not-true}
 use Rattle.rows.proofs.Cases.{on, clash}
-use Rattle.rows.proofs.Row.{row-case}
+use Rattle.rows.proofs.Row.{row_case}
 use Rattle.machine.specs.Machine.{Accepted}
 use Rattle.schedule.specs.Limits as limit
 use Rattle.schedule.specs.declared.steps.LockStep.{LockStep}
 use Rattle.schedule.specs.declared.steps.LockStep.TheVariants.{ExcStart, ExcCheckCount, ExcFinish, ExcRelease, SharedStart, SharedFinish, SharedRelease}
-use Rattle.lock.specs.Lock.{lock, zeroCell, cell, with_head, withCell, sharedStarted, sharedFinished, sharedReleased, next}
-use Rattle.lock.specs.Sound.{mustBeClear}
+use Rattle.lock.specs.Lock.{lock, zero_cell, cell, with_head, with_cell, shared_started, shared_finished, shared_released, next}
+use Rattle.lock.specs.Sound.{must_be_clear}
 use Rattle.lock.specs.Refined.{Sound}
 use Rattle.lock.specs.declared.state.Cell.{Cell}
 use Rattle.lock.specs.declared.state.Head.{Head}
 use Rattle.lock.specs.declared.state.State.{State}
-use Rattle.lock.proofs.Phases.{checkingHead, Phase, away, checking, holding, unlocked-away}
+use Rattle.lock.proofs.Phases.{checking_head, Phase, away, checking, holding, unlocked_away}
 use Rattle.lock.proofs.Plain.{PlainCell, PlainCells, guards, Plain}
-use Rattle.lock.proofs.Sounds.{state, plain-sound, sound-plain}
+use Rattle.lock.proofs.Sounds.{state, plain_sound, sound_plain}
 use Rattle.lock.proofs.Changed.{in_row}
 
 -- ---------- the writer's steps: where it is after them, and that no guard stands where it has checked
 
 abbrev Standing : Head → List Cell → Type 0
-Standing h cs = Phase h × ((r : ℕ) → mustBeClear h r ≡ true → guards cs r ≡ 0)
+Standing h cs = Phase h × ((r : ℕ) → must_be_clear h r ≡ true → guards cs r ≡ 0)
 
 module _ (cs : List Cell) where
   -- it has checked no cell yet
-  exc-start-stands : {h : Head} → Phase h → Accepted lock (state h cs) ExcStart → Standing (next (state h cs) ExcStart).head cs
-  exc-start-stands (away t w) a = (checking t w 0 (omega arith), λ r m. absurd (omega (arith, ltb-true, m)))
-  exc-start-stands (checking t w c l) a = clash (cc a.0)
-  exc-start-stands (holding w) a = clash (cc a.0)
+  exc_start_stands : {h : Head} → Phase h → Accepted lock (state h cs) ExcStart → Standing (next (state h cs) ExcStart).head cs
+  exc_start_stands (away t w) a = (checking t w 0 (omega arith), λ r m. absurd (omega (arith, ltb-true, m)))
+  exc_start_stands (checking t w c l) a = clash (cc a.0)
+  exc_start_stands (holding w) a = clash (cc a.0)
 
   -- the cell at its cursor counts nobody, so no guard
-  exc-check-count-stands : {h : Head} → Phase h → PlainCells h cs → Accepted lock (state h cs) ExcCheckCount → Standing (next (state h cs) ExcCheckCount).head cs
-  exc-check-count-stands (away t w) p a = clash (cc a.0)
-  exc-check-count-stands (holding w) p a = clash (cc a.0)
-  exc-check-count-stands (checking t w c l) p a = (checking t w (c + 1) (omega (arith, ltb-true, a.1.0)), clear)
+  exc_check_count_stands : {h : Head} → Phase h → PlainCells h cs → Accepted lock (state h cs) ExcCheckCount → Standing (next (state h cs) ExcCheckCount).head cs
+  exc_check_count_stands (away t w) p a = clash (cc a.0)
+  exc_check_count_stands (holding w) p a = clash (cc a.0)
+  exc_check_count_stands (checking t w c l) p a = (checking t w (c + 1) (omega (arith, ltb-true, a.1.0)), clear)
     where
       clear : (r : ℕ) → ltb r (c + 1) ≡ true → guards cs r ≡ 0
       clear r m = on (eqb r c)
@@ -48,24 +48,24 @@ module _ (cs : List Cell) where
           (λ b. (p r).clear (lt-ltb r c (omega (arith, ltb-true, m, eqb-false r c b))))
 
   -- it has checked every cell in use, and the others are zero
-  exc-finish-stands : {h : Head} → Phase h → PlainCells h cs → Accepted lock (state h cs) ExcFinish → Standing (next (state h cs) ExcFinish).head cs
-  exc-finish-stands (away t w) p a = clash (cc a.0)
-  exc-finish-stands (holding w) p a = clash (cc a.0)
-  exc-finish-stands (checking t w c l) p a = (holding w, clear)
+  exc_finish_stands : {h : Head} → Phase h → PlainCells h cs → Accepted lock (state h cs) ExcFinish → Standing (next (state h cs) ExcFinish).head cs
+  exc_finish_stands (away t w) p a = clash (cc a.0)
+  exc_finish_stands (holding w) p a = clash (cc a.0)
+  exc_finish_stands (checking t w c l) p a = (holding w, clear)
     where
-      clear : (r : ℕ) → mustBeClear (next (state (checkingHead t w c) cs) ExcFinish).head r ≡ true → guards cs r ≡ 0
+      clear : (r : ℕ) → must_be_clear (next (state (checking_head t w c) cs) ExcFinish).head r ≡ true → guards cs r ≡ 0
       clear r m = on (ltb r w)
           (λ b. (p r).clear (rw (eqb-true c w a.1.0) b))
           (λ b. ap (λ (k : Cell). k.guards) ((p r).unused (ltb-false r w b)))
 
-  exc-release-stands : {h : Head} (t : ℕ) → Phase h → Accepted lock (state h cs) (ExcRelease t) → Standing (next (state h cs) (ExcRelease t)).head cs
-  exc-release-stands u (away t w) a = clash (cc a.0)
-  exc-release-stands u (checking t w c l) a = clash (cc a.0)
-  exc-release-stands u (holding w) a = (away u w, λ r m. clash (cc))
+  exc_release_stands : {h : Head} (t : ℕ) → Phase h → Accepted lock (state h cs) (ExcRelease t) → Standing (next (state h cs) (ExcRelease t)).head cs
+  exc_release_stands u (away t w) a = clash (cc a.0)
+  exc_release_stands u (checking t w c l) a = clash (cc a.0)
+  exc_release_stands u (holding w) a = (away u w, λ r m. clash (cc))
 
 -- the width stays, and with it what is in use
-head-kept : (s : State) (h : Head) → Plain s → h.width ≡ s.head.width → Standing h s.cells → Plain (with_head s h)
-head-kept s h p e w =
+head_kept : (s : State) (h : Head) → Plain s → h.width ≡ s.head.width → Standing h s.cells → Plain (with_head s h)
+head_kept s h p e w =
     record {
       whole = p.whole;
       low = rw e p.low;
@@ -78,8 +78,8 @@ head-kept s h p e w =
 
 module _ (h : Head) (r : ℕ) (c : Cell) (p : PlainCell h r c) (l : r < h.width) where
   -- one more is counted, and pending
-  shared-start-plain : ltb c.count limit.counter ≡ true → PlainCell h r (sharedStarted c)
-  shared-start-plain b =
+  shared_start_plain : ltb c.count limit.counter ≡ true → PlainCell h r (shared_started c)
+  shared_start_plain b =
       record {
         small = omega (arith, ltb-true, b);
         counted = omega (arith, p.counted);
@@ -88,8 +88,8 @@ module _ (h : Head) (r : ℕ) (c : Cell) (p : PlainCell h r c) (l : r < h.width)
       }
 
   -- a guard comes only where guards may stand
-  shared-finish-plain : mustBeClear h r ≡ false → ltb 0 c.pending ≡ true → PlainCell h r (sharedFinished c)
-  shared-finish-plain f b =
+  shared_finish_plain : must_be_clear h r ≡ false → ltb 0 c.pending ≡ true → PlainCell h r (shared_finished c)
+  shared_finish_plain f b =
       record {
         small = p.small;
         counted = omega (arith, p.counted, ltb-true, b);
@@ -98,8 +98,8 @@ module _ (h : Head) (r : ℕ) (c : Cell) (p : PlainCell h r c) (l : r < h.width)
       }
 
   -- a guard goes, and with it one of the count
-  shared-release-plain : ltb 0 c.guards ≡ true → PlainCell h r (sharedReleased c)
-  shared-release-plain b =
+  shared_release_plain : ltb 0 c.guards ≡ true → PlainCell h r (shared_released c)
+  shared_release_plain b =
       record {
         small = omega (arith, p.small);
         counted = omega (arith, p.counted, ltb-true, b);
@@ -107,30 +107,30 @@ module _ (h : Head) (r : ℕ) (c : Cell) (p : PlainCell h r c) (l : r < h.width)
         clear = λ m. omega (arith, p.clear m);
       }
 
-cell-kept : (s : State) (r : ℕ) (c : Cell) → Plain s → ltb r s.head.width ≡ true → PlainCell s.head r c → Plain (withCell s r c)
-cell-kept s r c p b k =
+cell_kept : (s : State) (r : ℕ) (c : Cell) → Plain s → ltb r s.head.width ≡ true → PlainCell s.head r c → Plain (with_cell s r c)
+cell_kept s r c p b k =
     record {
       whole = rw length-set p.whole;
       low = p.low;
       high = p.high;
       phase = p.phase;
-      cells = λ q. row-case (PlainCell s.head q) s.cells r q c zeroCell (in_row s r p b) (λ e. rw e k) (λ n. p.cells q);
+      cells = λ q. row_case (PlainCell s.head q) s.cells r q c zero_cell (in_row s r p b) (λ e. rw e k) (λ n. p.cells q);
     }
 
 -- ---------- every step
 
-pub plain-next : (s : State) (x : LockStep) → Plain s → Accepted lock s x → Plain (next s x)
-plain-next s ExcStart p a = head-kept s _ p refl (exc-start-stands s.cells p.phase a)
-plain-next s ExcCheckCount p a = head-kept s _ p refl (exc-check-count-stands s.cells p.phase p.cells a)
-plain-next s ExcFinish p a = head-kept s _ p refl (exc-finish-stands s.cells p.phase p.cells a)
-plain-next s (ExcRelease t) p a = head-kept s _ p refl (exc-release-stands s.cells t p.phase a)
-plain-next s (SharedStart r) p a =
-    cell-kept s r _ p a.0 (shared-start-plain s.head r (cell s r) (p.cells r) (ltb-true r s.head.width a.0) a.1.0)
-plain-next s (SharedFinish r) p a =
-    let u = unlocked-away p.phase (not-true s.head.locked a.1.0) in
-    cell-kept s r _ p a.0 (shared-finish-plain s.head r (cell s r) (p.cells r) (ltb-true r s.head.width a.0) (rw (u.2, u.1)) a.1.1.0)
-plain-next s (SharedRelease r t) p a =
-    cell-kept s r _ p a.0 (shared-release-plain s.head r (cell s r) (p.cells r) (ltb-true r s.head.width a.0) a.1.0)
+pub plain_next : (s : State) (x : LockStep) → Plain s → Accepted lock s x → Plain (next s x)
+plain_next s ExcStart p a = head_kept s _ p refl (exc_start_stands s.cells p.phase a)
+plain_next s ExcCheckCount p a = head_kept s _ p refl (exc_check_count_stands s.cells p.phase p.cells a)
+plain_next s ExcFinish p a = head_kept s _ p refl (exc_finish_stands s.cells p.phase p.cells a)
+plain_next s (ExcRelease t) p a = head_kept s _ p refl (exc_release_stands s.cells t p.phase a)
+plain_next s (SharedStart r) p a =
+    cell_kept s r _ p a.0 (shared_start_plain s.head r (cell s r) (p.cells r) (ltb-true r s.head.width a.0) a.1.0)
+plain_next s (SharedFinish r) p a =
+    let u = unlocked_away p.phase (not-true s.head.locked a.1.0) in
+    cell_kept s r _ p a.0 (shared_finish_plain s.head r (cell s r) (p.cells r) (ltb-true r s.head.width a.0) (rw (u.2, u.1)) a.1.1.0)
+plain_next s (SharedRelease r t) p a =
+    cell_kept s r _ p a.0 (shared_release_plain s.head r (cell s r) (p.cells r) (ltb-true r s.head.width a.0) a.1.0)
 
-pub accepted-sound : (s : State) (x : LockStep) → Sound s → Accepted lock s x → Sound (next s x)
-accepted-sound s x k a = plain-sound (next s x) (plain-next s x (sound-plain s k) a)
+pub accepted_sound : (s : State) (x : LockStep) → Sound s → Accepted lock s x → Sound (next s x)
+accepted_sound s x k a = plain_sound (next s x) (plain_next s x (sound_plain s k) a)

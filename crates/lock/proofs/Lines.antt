@@ -10,68 +10,68 @@ use borrow.Author.Tests.{eqb-true, eqb-false, ltb-true, ltb-false, not-true, not
 use Rattle.rows.proofs.Cases.{on, cannot, clash}
 use Rattle.machine.specs.Codes as code
 use Rattle.machine.specs.Sourced.{Clear, Applies}
-use Rattle.machine.proofs.Known.{must-be, must-hold, one-held, there}
+use Rattle.machine.proofs.Known.{must_be, must_hold, one_held, there}
 use Rattle.machine.proofs.Reasons.{Tells, telling}
 use Rattle.schedule.specs.Limits as limit
 use Rattle.schedule.specs.declared.steps.LockStep.{LockStep}
 use Rattle.schedule.specs.declared.steps.LockStep.TheVariants.{ExcStart, ExcCheckCount, ExcFinish, ExcRelease, SharedStart, SharedFinish, SharedRelease}
 use Rattle.lock.specs.Source as source
 use Rattle.lock.specs.Source.{DistRwLock, Transition, Moves}
-use Rattle.lock.specs.Invariants.{Is-some, Invariants}
+use Rattle.lock.specs.Invariants.{IsSome, Invariants}
 use Rattle.lock.specs.Lock.{cell, tests}
 use Rattle.lock.specs.Refined.{abs, label, lines, Sound}
 use Rattle.lock.specs.declared.state.State.{State}
-use Rattle.lock.proofs.Filtered.{stands, carrying-none}
+use Rattle.lock.proofs.Filtered.{stands, carrying_none}
 use Rattle.lock.proofs.Plain.{guards}
 
 -- ---------- the source alone
 
 module _ (a : DistRwLock) (i : Invariants a) where
   -- a cell in use has a count, and one with a count is in use
-  counts : (r : ℕ) → (a.rc-width ≤ r → ⊥) → (n : ℕ) × (a.ref-counts r ≡ some n)
-  counts r o = some-there (a.ref-counts r) (i.domain.inside r (omega arith))
+  counts : (r : ℕ) → (a.rc_width ≤ r → ⊥) → (n : ℕ) × (a.ref_counts r ≡ some n)
+  counts r o = some_there (a.ref_counts r) (i.domain.inside r (omega arith))
     where
-      some-there : (p : Option ℕ) → Is-some p → (n : ℕ) × (p ≡ some n)
-      some-there none h = absurd h
-      some-there (some n) h = (n, refl)
+      some_there : (p : Option ℕ) → IsSome p → (n : ℕ) × (p ≡ some n)
+      some_there none h = absurd h
+      some_there (some n) h = (n, refl)
 
-  within : (r n : ℕ) → a.ref-counts r ≡ some n → a.rc-width ≤ r → ⊥
+  within : (r n : ℕ) → a.ref_counts r ≡ some n → a.rc_width ≤ r → ⊥
   within r n e o = clash (cc (i.domain.outside r o))
 
   pub goes : (y : Transition) → Clear (lines a y) → (to : DistRwLock) × Moves a y to
-  goes source.exc-start k = (_, record { require = cannot a.exc-locked k.0; update = refl })
-  goes source.exc-check-count k =
-      let p = must-hold a.exc-pending k.0 in
+  goes source.exc_start k = (_, record { require = cannot a.exc_locked k.0; update = refl })
+  goes source.exc_check_count k =
+      let p = must_hold a.exc_pending k.0 in
       let n = counts p.0 (λ o. k.1.0 (p.0, p.1, o)) in
-      let z = must-be n.0 0 (λ h. k.1.1.0 (p.0, n.0, p.1, n.1, h)) in
+      let z = must_be n.0 0 (λ h. k.1.1.0 (p.0, n.0, p.1, n.1, h)) in
       (_, record { r = p.0; removes = p.1; have = rw (← z) n.1; update = refl })
-  goes source.exc-finish k =
-      let p = must-hold a.exc-pending k.0 in
-      let e = must-be p.0 a.rc-width (λ h. k.1.0 (p.0, p.1, h)) in
+  goes source.exc_finish k =
+      let p = must_hold a.exc_pending k.0 in
+      let e = must_be p.0 a.rc_width (λ h. k.1.0 (p.0, p.1, h)) in
       (_, record { removes = rw (← e) p.1; update = refl })
-  goes (source.exc-release t) k = (_, record { removes = (must-hold a.exc-guard k.0).1; update = refl })
+  goes (source.exc_release t) k = (_, record { removes = (must_hold a.exc_guard k.0).1; update = refl })
   goes (source.shared_start r) k = let n = counts r k.0 in (_, record { rc = n.0; removes = n.1; update = refl })
-  goes (source.shared-finish r) k =
-      (_, record { require = cannot a.exc-locked k.1.0; removes = omega (arith, k.1.1.0); update = refl })
-  goes (source.shared-release val) k =
+  goes (source.shared_finish r) k =
+      (_, record { require = cannot a.exc_locked k.1.0; removes = omega (arith, k.1.1.0); update = refl })
+  goes (source.shared_release val) k =
       let n = counts val.0 k.0 in
-      (_, record { rc = n.0; removes-guard = omega (arith, k.1.0); removes = n.1; update = refl })
+      (_, record { rc = n.0; removes_guard = omega (arith, k.1.0); removes = n.1; update = refl })
 
   pub clear : (y : Transition) (to : DistRwLock) → Moves a y to → (Applies (lines a y) code.full → ⊥) → Clear (lines a y)
-  clear source.exc-start to v b = (λ e. clash (cc v.require), tt)
-  clear source.exc-check-count to v b = (
+  clear source.exc_start to v b = (λ e. clash (cc v.require), tt)
+  clear source.exc_check_count to v b = (
     λ e. clash (cc v.removes),
     (
-      λ w. within v.r 0 v.have (rw (one-held v.removes w.1) w.2),
-      (λ w. w.4 (one-held w.3 (rw (← one-held v.removes w.2) v.have)), tt),
+      λ w. within v.r 0 v.have (rw (one_held v.removes w.1) w.2),
+      (λ w. w.4 (one_held w.3 (rw (← one_held v.removes w.2) v.have)), tt),
     ),
   )
-  clear source.exc-finish to v b = (λ e. clash (cc v.removes), (λ w. w.2 (one-held w.1 v.removes), tt))
-  clear (source.exc-release t) to v b = (λ e. clash (cc v.removes), tt)
+  clear source.exc_finish to v b = (λ e. clash (cc v.removes), (λ w. w.2 (one_held w.1 v.removes), tt))
+  clear (source.exc_release t) to v b = (λ e. clash (cc v.removes), tt)
   clear (source.shared_start r) to v b = (within r v.rc v.removes, (λ w. b (inr (inl (refl, w))), tt))
-  clear (source.shared-finish r) to v b =
-      (λ o. omega (arith, i.pending-range r v.removes), (λ e. clash (cc v.require), (λ z. omega (arith, v.removes), tt)))
-  clear (source.shared-release val) to v b = (within val.0 v.rc v.removes, (λ z. omega (arith, v.removes-guard), tt))
+  clear (source.shared_finish r) to v b =
+      (λ o. omega (arith, i.pending_range r v.removes), (λ e. clash (cc v.require), (λ z. omega (arith, v.removes), tt)))
+  clear (source.shared_release val) to v b = (within val.0 v.rc v.removes, (λ z. omega (arith, v.removes_guard), tt))
 
 -- ---------- the tests of a sound state tell the lines
 
@@ -109,9 +109,9 @@ tells s (SharedRelease r t) k =
     let w = s.head.width in
     let n = (cell s r).guards in
     telling (ltb-false r w) (λ l o. omega (arith, ltb-true r w l)) (λ l. (
-      λ e. carrying-none s.head.t (guards s.cells) r t (omega (arith, ltb-false 0 n e)),
+      λ e. carrying_none s.head.t (guards s.cells) r t (omega (arith, ltb-false 0 n e)),
       λ h. (
-        λ e. must-be ((abs s).shared-guard (r, t)) 0 (λ z. clash (cc (k.inv.agree r t (omega arith)))),
+        λ e. must_be ((abs s).shared_guard (r, t)) 0 (λ z. clash (cc (k.inv.agree r t (omega arith)))),
         λ o.
             telling (λ e. rw e) (λ e z. omega (arith, ltb-true 0 n h, rw e at z)) (λ e. tt),
       ),

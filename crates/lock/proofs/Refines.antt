@@ -11,57 +11,57 @@ use Rattle.schedule.specs.declared.steps.LockStep.TheVariants.{ExcStart, ExcChec
 use Rattle.lock.proofs.Inductive as source-own
 use mathlib.Core.Path.{◌≡◌, refl}
 use Rattle.lock.specs.Invariants.{Invariants}
-use Rattle.lock.specs.Lock.{lock, freshState}
-use Rattle.lock.specs.Refined.{label, Sound, distRwLock, Refines}
+use Rattle.lock.specs.Lock.{lock, fresh_state}
+use Rattle.lock.specs.Refined.{label, Sound, dist_rw_lock, Refines}
 use Rattle.lock.specs.Demand.{Hist}
 use Rattle.lock.specs.declared.state.State.{State}
-use Rattle.lock.proofs.Sounds.{sound-means, means-sound, abs-tells, fresh-initialize, fresh-new, fresh-means, fresh-sound}
-use Rattle.lock.proofs.Kept.{accepted-sound}
+use Rattle.lock.proofs.Sounds.{sound_means, means_sound, abs_tells, fresh_initialize, fresh_new, fresh_means, fresh_sound}
+use Rattle.lock.proofs.Kept.{accepted_sound}
 use Rattle.lock.proofs.Lines.{goes, clear, tells}
-use Rattle.lock.proofs.Posts.{accepted-moves, moves-one, accepted-logs, hands-one}
+use Rattle.lock.proofs.Posts.{accepted_moves, moves_one, accepted_logs, hands_one}
 
 -- every transition of the source is some step's
 onto : (y : Transition) → (x : LockStep) × (label x ≡ y)
-onto source.exc-start = (ExcStart, refl)
-onto source.exc-check-count = (ExcCheckCount, refl)
-onto source.exc-finish = (ExcFinish, refl)
-onto (source.exc-release t) = (ExcRelease t, refl)
+onto source.exc_start = (ExcStart, refl)
+onto source.exc_check_count = (ExcCheckCount, refl)
+onto source.exc_finish = (ExcFinish, refl)
+onto (source.exc_release t) = (ExcRelease t, refl)
 onto (source.shared_start r) = (SharedStart r, refl)
-onto (source.shared-finish r) = (SharedFinish r, refl)
-onto (source.shared-release val) = (SharedRelease val.0 val.1, refl)
+onto (source.shared_finish r) = (SharedFinish r, refl)
+onto (source.shared_release val) = (SharedRelease val.0 val.1, refl)
 
-owed : Owed distRwLock Invariants Sound
+owed : Owed dist_rw_lock Invariants Sound
 owed =
     record {
       onto = onto;
       inductive = record { kept = source-own.inductive; safe = source-own.safe };
       goes = λ y a i. goes a i y;
       clear = λ y a to i. clear a i y to;
-      moves-one = λ y a p q i. moves-one y a p q;
-      hands-one = λ y a es fs i. hands-one y a es fs;
+      moves_one = λ y a p q i. moves_one y a p q;
+      hands_one = λ y a es fs i. hands_one y a es fs;
       inv = λ s k. k.inv;
       tells = tells;
-      moves = accepted-moves;
-      logs = accepted-logs;
-      good = accepted-sound;
-      abs-tells = abs-tells;
+      moves = accepted_moves;
+      logs = accepted_logs;
+      good = accepted_sound;
+      abs_tells = abs_tells;
     }
 
 pub refines : Refines
 refines =
     record {
-      fresh-initialize = fresh-initialize;
-      fresh-new = fresh-new;
-      fresh-sound = fresh-sound;
-      sound-means = sound-means;
-      means-sound = means-sound;
-      upholds = upholds distRwLock Invariants Sound owed;
-      initial = source-own.initialize-inductive;
+      fresh_initialize = fresh_initialize;
+      fresh_new = fresh_new;
+      fresh_sound = fresh_sound;
+      sound_means = sound_means;
+      means_sound = means_sound;
+      upholds = upholds dist_rw_lock Invariants Sound owed;
+      initial = source-own.initialize_inductive;
       inductive = owed.inductive;
-      complete = complete distRwLock Invariants Sound owed;
-      guards-stored = source-own.do-guard-holds;
+      complete = complete dist_rw_lock Invariants Sound owed;
+      guards_stored = source-own.do_guard_holds;
     }
 
-pub every-prefix-sound : (w t : ℕ) → 1 ≤ w → w ≤ limit.width → {h : Hist} {s : State} → Run lock (freshState w t) h s → Sound s
-every-prefix-sound w t low high r =
-    always lock (freshState w t) (λ h s. Sound s) (fresh-means w t low high) (λ h s x k a. accepted-sound s x k a) r
+pub every_prefix_sound : (w t : ℕ) → 1 ≤ w → w ≤ limit.width → {h : Hist} {s : State} → Run lock (fresh_state w t) h s → Sound s
+every_prefix_sound w t low high r =
+    always lock (fresh_state w t) (λ h s. Sound s) (fresh_means w t low high) (λ h s x k a. accepted_sound s x k a) r

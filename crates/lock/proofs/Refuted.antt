@@ -27,86 +27,86 @@ gives_back r t = record { did = SharedRelease r t; wrote = [] }
 
 -- ---------- a writer guard beside a reader guard
 
-pub taken-beside-reader : Demand 2 7 (takes 7 ∷ hands_out 0 7 ∷ []) → ⊥
-taken-beside-reader d = (d.guards [] _ refl).apart (omega arith) 0 7 (omega arith)
+pub taken_beside_reader : Demand 2 7 (takes 7 ∷ hands_out 0 7 ∷ []) → ⊥
+taken_beside_reader d = (d.guards [] _ refl).apart (omega arith) 0 7 (omega arith)
 
-pub handed-out-beside-writer : Demand 2 7 (hands_out 0 7 ∷ takes 7 ∷ []) → ⊥
-handed-out-beside-writer d = (d.guards [] _ refl).apart (omega arith) 0 7 (omega arith)
+pub handed_out_beside_writer : Demand 2 7 (hands_out 0 7 ∷ takes 7 ∷ []) → ⊥
+handed_out_beside_writer d = (d.guards [] _ refl).apart (omega arith) 0 7 (omega arith)
 
 -- one of two readers is gone, and the other is not
-pub one-reader-left : Demand 2 7 (takes 7 ∷ gives_back 0 7 ∷ hands_out 1 7 ∷ hands_out 0 7 ∷ []) → ⊥
-one-reader-left d = (d.guards [] _ refl).apart (omega arith) 1 7 (omega arith)
+pub one_reader_left : Demand 2 7 (takes 7 ∷ gives_back 0 7 ∷ hands_out 1 7 ∷ hands_out 0 7 ∷ []) → ⊥
+one_reader_left d = (d.guards [] _ refl).apart (omega arith) 1 7 (omega arith)
 
 -- ---------- a reader guard that carries the record of a closed shift
 
 -- it was handed out before the shift closed, or after
-pub outlives-its-shift : Demand 2 7 (returns 8 ∷ takes 7 ∷ hands_out 0 7 ∷ []) → ⊥
-outlives-its-shift d = omega (arith, (d.guards [] _ refl).current 0 7 (omega arith))
+pub outlives_its_shift : Demand 2 7 (returns 8 ∷ takes 7 ∷ hands_out 0 7 ∷ []) → ⊥
+outlives_its_shift d = omega (arith, (d.guards [] _ refl).current 0 7 (omega arith))
 
-pub handed-out-too-late : Demand 2 7 (hands_out 0 7 ∷ returns 8 ∷ takes 7 ∷ []) → ⊥
-handed-out-too-late d = omega (arith, (d.guards [] _ refl).current 0 7 (omega arith))
+pub handed_out_too_late : Demand 2 7 (hands_out 0 7 ∷ returns 8 ∷ takes 7 ∷ []) → ⊥
+handed_out_too_late d = omega (arith, (d.guards [] _ refl).current 0 7 (omega arith))
 
 -- no shift closed yet, and the record is not the initial one
-pub another-handed-out : Demand 2 7 (hands_out 0 8 ∷ []) → ⊥
-another-handed-out d = omega (arith, (d.guards [] _ refl).current 0 8 (omega arith))
+pub another_handed_out : Demand 2 7 (hands_out 0 8 ∷ []) → ⊥
+another_handed_out d = omega (arith, (d.guards [] _ refl).current 0 8 (omega arith))
 
 -- ---------- two writers
 
-pub two-writers : Demand 2 7 (takes 7 ∷ takes 7 ∷ []) → ⊥
-two-writers d = omega (arith, (d.guards [] _ refl).one_writer)
+pub two_writers : Demand 2 7 (takes 7 ∷ takes 7 ∷ []) → ⊥
+two_writers d = omega (arith, (d.guards [] _ refl).one_writer)
 
 -- a writer gives back what it did not take, or twice
-pub never-taken : Demand 2 7 (returns 8 ∷ []) → ⊥
-never-taken d = omega (arith, (d.guards [] _ refl).writers-exact)
+pub never_taken : Demand 2 7 (returns 8 ∷ []) → ⊥
+never_taken d = omega (arith, (d.guards [] _ refl).writers_exact)
 
-pub returned-twice : Demand 2 7 (returns 9 ∷ returns 8 ∷ takes 7 ∷ []) → ⊥
-returned-twice d = omega (arith, (d.guards [] _ refl).writers-exact)
+pub returned_twice : Demand 2 7 (returns 9 ∷ returns 8 ∷ takes 7 ∷ []) → ⊥
+returned_twice d = omega (arith, (d.guards [] _ refl).writers_exact)
 
 -- a writer that does not log what it withdraws has taken nothing that it could give back
-pub taken-unlogged : Demand 2 7 (returns 8 ∷ record { did = ExcFinish; wrote = [] } ∷ []) → ⊥
-taken-unlogged d = omega (arith, (d.guards [] _ refl).writers-exact)
+pub taken_unlogged : Demand 2 7 (returns 8 ∷ record { did = ExcFinish; wrote = [] } ∷ []) → ⊥
+taken_unlogged d = omega (arith, (d.guards [] _ refl).writers_exact)
 
 -- ---------- a reader guard given back
 
-pub given-back-twice : Demand 2 7 (gives_back 0 7 ∷ gives_back 0 7 ∷ hands_out 0 7 ∷ []) → ⊥
-given-back-twice d = omega (arith, (d.guards [] _ refl).readers-exact 0 7)
+pub given_back_twice : Demand 2 7 (gives_back 0 7 ∷ gives_back 0 7 ∷ hands_out 0 7 ∷ []) → ⊥
+given_back_twice d = omega (arith, (d.guards [] _ refl).readers_exact 0 7)
 
-pub never-handed-out : Demand 2 7 (gives_back 0 7 ∷ []) → ⊥
-never-handed-out d = omega (arith, (d.guards [] _ refl).readers-exact 0 7)
+pub never_handed_out : Demand 2 7 (gives_back 0 7 ∷ []) → ⊥
+never_handed_out d = omega (arith, (d.guards [] _ refl).readers_exact 0 7)
 
 -- it carries another record than the one handed out, or comes from another cell
-pub another-given-back : Demand 2 7 (gives_back 0 8 ∷ hands_out 0 7 ∷ []) → ⊥
-another-given-back d = omega (arith, (d.guards [] _ refl).readers-exact 0 8)
+pub another_given_back : Demand 2 7 (gives_back 0 8 ∷ hands_out 0 7 ∷ []) → ⊥
+another_given_back d = omega (arith, (d.guards [] _ refl).readers_exact 0 8)
 
-pub given-back-elsewhere : Demand 2 7 (gives_back 1 7 ∷ hands_out 0 7 ∷ []) → ⊥
-given-back-elsewhere d = omega (arith, (d.guards [] _ refl).readers-exact 1 7)
+pub given_back_elsewhere : Demand 2 7 (gives_back 1 7 ∷ hands_out 0 7 ∷ []) → ⊥
+given_back_elsewhere d = omega (arith, (d.guards [] _ refl).readers_exact 1 7)
 
 -- ---------- what a step logs, and where it stands in the history
 
 -- a record is withdrawn that never was in force
-pub another-withdrawn : Demand 2 7 (takes 9 ∷ []) → ⊥
-another-withdrawn d = clash (cc (d.steps [] _ _ refl).1.withdrawn)
+pub another_withdrawn : Demand 2 7 (takes 9 ∷ []) → ⊥
+another_withdrawn d = clash (cc (d.steps [] _ _ refl).1.withdrawn)
 
 -- a writer that logs nothing, beside a reader
-pub unlogged-beside-reader : Demand 2 7 (record { did = ExcFinish; wrote = [] } ∷ hands_out 0 7 ∷ []) → ⊥
-unlogged-beside-reader d = clash (cc (d.steps [] _ _ refl).1.withdrawn)
+pub unlogged_beside_reader : Demand 2 7 (record { did = ExcFinish; wrote = [] } ∷ hands_out 0 7 ∷ []) → ⊥
+unlogged_beside_reader d = clash (cc (d.steps [] _ _ refl).1.withdrawn)
 
 -- a guard outlives a handover from a record to the same one
-pub outlives-a-handover : Demand 2 7 (returns 7 ∷ takes 7 ∷ hands_out 0 7 ∷ []) → ⊥
-outlives-a-handover d = omega (arith, (d.steps (returns 7 ∷ []) (takes 7) (hands_out 0 7 ∷ []) refl).1.no_reader 0 7)
+pub outlives_a_handover : Demand 2 7 (returns 7 ∷ takes 7 ∷ hands_out 0 7 ∷ []) → ⊥
+outlives_a_handover d = omega (arith, (d.steps (returns 7 ∷ []) (takes 7) (hands_out 0 7 ∷ []) refl).1.no_reader 0 7)
 
 -- a reader gets a guard and logs nothing; a guard is logged by another step
-pub granted-unlogged : Demand 2 7 (record { did = SharedFinish 0; wrote = [] } ∷ []) → ⊥
-granted-unlogged d = clash (cc (d.steps [] _ _ refl).1.granted)
+pub granted_unlogged : Demand 2 7 (record { did = SharedFinish 0; wrote = [] } ∷ []) → ⊥
+granted_unlogged d = clash (cc (d.steps [] _ _ refl).1.granted)
 
-pub granted-elsewhere : Demand 2 7 (record { did = ExcStart; wrote = Granted 0 7 ∷ [] } ∷ []) → ⊥
-granted-elsewhere d = clash (cc (d.steps [] _ _ refl).1)
+pub granted_elsewhere : Demand 2 7 (record { did = ExcStart; wrote = Granted 0 7 ∷ [] } ∷ []) → ⊥
+granted_elsewhere d = clash (cc (d.steps [] _ _ refl).1)
 
 -- ---------- a step that could not come there
 
 -- the guard is taken after a walk over one of two cells; a reader that was not announced gets a guard
-pub half-walked : Demand 2 7 (takes 7 ∷ record { did = ExcCheckCount; wrote = [] } ∷ record { did = ExcStart; wrote = [] } ∷ []) → ⊥
-half-walked d = omega (arith, (d.steps [] (takes 7) (record { did = ExcCheckCount; wrote = [] } ∷ record { did = ExcStart; wrote = [] } ∷ []) refl).0.1)
+pub half_walked : Demand 2 7 (takes 7 ∷ record { did = ExcCheckCount; wrote = [] } ∷ record { did = ExcStart; wrote = [] } ∷ []) → ⊥
+half_walked d = omega (arith, (d.steps [] (takes 7) (record { did = ExcCheckCount; wrote = [] } ∷ record { did = ExcStart; wrote = [] } ∷ []) refl).0.1)
 
 pub unannounced : Demand 2 7 (hands_out 0 7 ∷ []) → ⊥
 unannounced d = omega (arith, (d.steps [] (hands_out 0 7) [] refl).0.2)

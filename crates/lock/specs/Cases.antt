@@ -1,12 +1,12 @@
 -- Small cases of each step, written from the scope ("Codes", "Shift lock", "Log and image") and not from specs/Lock.antt: for each step some that
 -- are accepted, and for each of its tests one that this test refuses. Proved by one claim, in proofs/Tabled.antt. Assumes nothing.
 use Rattle.std.specs.Prelude.{ℕ, ◌+◌, ◌-◌, ◌≡◌, true, false, ◌&&◌, List, [], ◌∷◌, ◌++◌, length, replicate}
-use Rattle.machine.specs.Table.{Case, runs, does, refuses, refusesUnsound, Start, starts, allRight, allWrong, allStarted, noneStarted}
+use Rattle.machine.specs.Table.{Case, runs, does, refuses, refuses_unsound, Start, starts, all_right, all_wrong, all_started, none_started}
 use Rattle.schedule.specs.Limits as limit
 use Rattle.schedule.specs.declared.steps.LockStep.TheVariants.{ExcStart, ExcCheckCount, ExcFinish, ExcRelease, SharedStart, SharedFinish, SharedRelease}
-use Rattle.lock.specs.Lock.{lock, zeroCell, fresh_of}
+use Rattle.lock.specs.Lock.{lock, zero_cell, fresh_of}
 use Rattle.lock.specs.Sound.{sound}
-use Rattle.lock.specs.Image.{imageBytes, entryBytes}
+use Rattle.lock.specs.Image.{image_bytes, entry_bytes}
 use Rattle.lock.specs.declared.state.Cell.{Cell}
 use Rattle.lock.specs.declared.state.State.{State}
 
@@ -18,7 +18,7 @@ readers p g = record { count = p + g; pending = p; guards = g }
 
 -- the cells given, and behind them such as are zero
 abbrev row : List Cell → List Cell
-row cs = cs ++ replicate (limit.width - length cs) zeroCell
+row cs = cs ++ replicate (limit.width - length cs) zero_cell
 
 -- the writer is away, and t in store
 abbrev away : ℕ → ℕ → List Cell → State
@@ -61,8 +61,8 @@ nobody = 0 ∷ 0 ∷ 0 ∷ []
 abbrev zeros : ℕ → List ℕ
 zeros n = replicate n 0
 
-abbrev pub excCases : List (Case lock)
-excCases =
+abbrev pub exc_cases : List (Case lock)
+exc_cases =
     -- exc_start locks, with the cursor at 0, whoever is at the cells; it needs unlocked (12)
     does (away 1 5 []) ExcStart (1 ∷ 1 ∷ 0 ∷ 0 ∷ 0 ∷ 5 ∷ 1 ∷ 0 ∷ 0 ∷ nobody) []
     ∷ does (away 2 16909060 (readers 1 0 ∷ readers 0 3 ∷ [])) ExcStart (1 ∷ 1 ∷ 1 ∷ 2 ∷ 3 ∷ 4 ∷ 1 ∷ 0 ∷ 0 ∷ 1 ∷ 1 ∷ 0 ∷ 3 ∷ 0 ∷ 3 ∷ []) []
@@ -70,7 +70,7 @@ excCases =
     ∷ refuses (holding 1 []) ExcStart 12 (1 ∷ 0 ∷ 0 ∷ 0 ∷ 0 ∷ 0 ∷ 0 ∷ 0 ∷ 1 ∷ nobody)
     -- exc_check_count goes on by one cell, whoever is at the others
     ∷ does (checking 1 5 0 []) ExcCheckCount (1 ∷ 1 ∷ 0 ∷ 0 ∷ 0 ∷ 5 ∷ 1 ∷ 1 ∷ 0 ∷ nobody) []
-    ∷ does (checking 2 5 0 (zeroCell ∷ readers 1 2 ∷ [])) ExcCheckCount (1 ∷ 1 ∷ 0 ∷ 0 ∷ 0 ∷ 5 ∷ 1 ∷ 1 ∷ 0 ∷ 0 ∷ 0 ∷ 0 ∷ 3 ∷ 1 ∷ 2 ∷ []) []
+    ∷ does (checking 2 5 0 (zero_cell ∷ readers 1 2 ∷ [])) ExcCheckCount (1 ∷ 1 ∷ 0 ∷ 0 ∷ 0 ∷ 5 ∷ 1 ∷ 1 ∷ 0 ∷ 0 ∷ 0 ∷ 0 ∷ 3 ∷ 1 ∷ 2 ∷ []) []
     ∷ does (checking 2 5 1 (readers 1 0 ∷ [])) ExcCheckCount (1 ∷ 1 ∷ 0 ∷ 0 ∷ 0 ∷ 5 ∷ 1 ∷ 2 ∷ 0 ∷ 1 ∷ 1 ∷ 0 ∷ nobody) []
     ∷ does (checking 16 5 15 []) ExcCheckCount (1 ∷ 1 ∷ 0 ∷ 0 ∷ 0 ∷ 5 ∷ 1 ∷ 16 ∷ 0 ∷ zeros 48) []
     -- it needs a pending writer (12), the cursor below the width (13), and count 0 there (16: P7)
@@ -79,7 +79,7 @@ excCases =
     ∷ refuses (checking 1 5 1 []) ExcCheckCount 13 (1 ∷ 1 ∷ 0 ∷ 0 ∷ 0 ∷ 5 ∷ 1 ∷ 1 ∷ 0 ∷ nobody)
     ∷ refuses (checking 16 5 16 []) ExcCheckCount 13 (1 ∷ 1 ∷ 0 ∷ 0 ∷ 0 ∷ 5 ∷ 1 ∷ 16 ∷ 0 ∷ zeros 48)
     ∷ refuses (checking 1 5 0 (readers 1 0 ∷ [])) ExcCheckCount 16 (1 ∷ 1 ∷ 0 ∷ 0 ∷ 0 ∷ 5 ∷ 1 ∷ 0 ∷ 0 ∷ 1 ∷ 1 ∷ 0 ∷ [])
-    ∷ refuses (checking 2 5 1 (zeroCell ∷ readers 0 1 ∷ [])) ExcCheckCount 16 (1 ∷ 1 ∷ 0 ∷ 0 ∷ 0 ∷ 5 ∷ 1 ∷ 1 ∷ 0 ∷ 0 ∷ 0 ∷ 0 ∷ 1 ∷ 0 ∷ 1 ∷ [])
+    ∷ refuses (checking 2 5 1 (zero_cell ∷ readers 0 1 ∷ [])) ExcCheckCount 16 (1 ∷ 1 ∷ 0 ∷ 0 ∷ 0 ∷ 5 ∷ 1 ∷ 1 ∷ 0 ∷ 0 ∷ 0 ∷ 0 ∷ 1 ∷ 0 ∷ 1 ∷ [])
     -- exc_finish takes the guard and logs the record that it withdraws; who came after the check waits on (P8, with one more check)
     ∷ does (checking 2 16909060 2 []) ExcFinish (1 ∷ 0 ∷ 0 ∷ 0 ∷ 0 ∷ 0 ∷ 0 ∷ 0 ∷ 1 ∷ zeros 6) (5 ∷ 1 ∷ 1 ∷ 2 ∷ 3 ∷ 4 ∷ [])
     ∷ does (checking 1 5 1 (readers 2 0 ∷ [])) ExcFinish (1 ∷ 0 ∷ 0 ∷ 0 ∷ 0 ∷ 0 ∷ 0 ∷ 0 ∷ 1 ∷ 2 ∷ 2 ∷ 0 ∷ []) (5 ∷ 1 ∷ 0 ∷ 0 ∷ 0 ∷ 5 ∷ [])
@@ -96,8 +96,8 @@ excCases =
     ∷ refuses (checking 1 5 1 []) (ExcRelease 6) 12 (1 ∷ 1 ∷ 0 ∷ 0 ∷ 0 ∷ 5 ∷ 1 ∷ 1 ∷ 0 ∷ nobody)
     ∷ []
 
-abbrev pub sharedCases : List (Case lock)
-sharedCases =
+abbrev pub shared_cases : List (Case lock)
+shared_cases =
     -- shared_start adds 1 to the cell, locked or not
     does (away 1 5 []) (SharedStart 0) (0 ∷ 1 ∷ 0 ∷ 0 ∷ 0 ∷ 5 ∷ 0 ∷ 0 ∷ 0 ∷ 1 ∷ 1 ∷ 0 ∷ []) []
     ∷ does (away 2 5 (readers 1 0 ∷ readers 1 2 ∷ [])) (SharedStart 1) (0 ∷ 1 ∷ 0 ∷ 0 ∷ 0 ∷ 5 ∷ 0 ∷ 0 ∷ 0 ∷ 1 ∷ 1 ∷ 0 ∷ 4 ∷ 2 ∷ 2 ∷ []) []
@@ -123,18 +123,18 @@ sharedCases =
     -- shared_release takes 1 off, locked or not, and logs nothing
     ∷ does (away 1 5 (readers 1 1 ∷ [])) (SharedRelease 0 5) (0 ∷ 1 ∷ 0 ∷ 0 ∷ 0 ∷ 5 ∷ 0 ∷ 0 ∷ 0 ∷ 1 ∷ 1 ∷ 0 ∷ []) []
     ∷ does (away 1 0 (readers 0 255 ∷ [])) (SharedRelease 0 0) (0 ∷ 1 ∷ 0 ∷ 0 ∷ 0 ∷ 0 ∷ 0 ∷ 0 ∷ 0 ∷ 254 ∷ 0 ∷ 254 ∷ []) []
-    ∷ does (checking 2 5 1 (zeroCell ∷ readers 0 2 ∷ [])) (SharedRelease 1 5) (1 ∷ 1 ∷ 0 ∷ 0 ∷ 0 ∷ 5 ∷ 1 ∷ 1 ∷ 0 ∷ 0 ∷ 0 ∷ 0 ∷ 1 ∷ 0 ∷ 1 ∷ []) []
+    ∷ does (checking 2 5 1 (zero_cell ∷ readers 0 2 ∷ [])) (SharedRelease 1 5) (1 ∷ 1 ∷ 0 ∷ 0 ∷ 0 ∷ 5 ∷ 1 ∷ 1 ∷ 0 ∷ 0 ∷ 0 ∷ 0 ∷ 1 ∷ 0 ∷ 1 ∷ []) []
     -- it needs r inside (11), and that very guard (17): there is nobody at r, nothing is in store that it could carry, or it carries another record
     ∷ refuses (away 1 5 (readers 0 1 ∷ [])) (SharedRelease 1 5) 11 (0 ∷ 1 ∷ 0 ∷ 0 ∷ 0 ∷ 5 ∷ 0 ∷ 0 ∷ 0 ∷ 1 ∷ 0 ∷ 1 ∷ [])
     ∷ refuses (away 2 5 (readers 1 0 ∷ readers 0 1 ∷ [])) (SharedRelease 0 5) 17 (0 ∷ 1 ∷ 0 ∷ 0 ∷ 0 ∷ 5 ∷ 0 ∷ 0 ∷ 0 ∷ 1 ∷ 1 ∷ 0 ∷ 1 ∷ 0 ∷ 1 ∷ [])
     ∷ refuses (holding 1 (readers 1 0 ∷ [])) (SharedRelease 0 0) 17 (1 ∷ 0 ∷ 0 ∷ 0 ∷ 0 ∷ 0 ∷ 0 ∷ 0 ∷ 1 ∷ 1 ∷ 1 ∷ 0 ∷ [])
-    ∷ refusesUnsound (storeless 1 (readers 0 1 ∷ [])) (SharedRelease 0 0) 17 (0 ∷ 0 ∷ 0 ∷ 0 ∷ 0 ∷ 0 ∷ 0 ∷ 0 ∷ 0 ∷ 1 ∷ 0 ∷ 1 ∷ [])
+    ∷ refuses_unsound (storeless 1 (readers 0 1 ∷ [])) (SharedRelease 0 0) 17 (0 ∷ 0 ∷ 0 ∷ 0 ∷ 0 ∷ 0 ∷ 0 ∷ 0 ∷ 0 ∷ 1 ∷ 0 ∷ 1 ∷ [])
     ∷ refuses (away 1 5 (readers 0 1 ∷ [])) (SharedRelease 0 6) 17 (0 ∷ 1 ∷ 0 ∷ 0 ∷ 0 ∷ 5 ∷ 0 ∷ 0 ∷ 0 ∷ 1 ∷ 0 ∷ 1 ∷ [])
     ∷ []
 
 -- whole runs of a fresh lock: a reader gets its guard with the record in store; after a handover, with the new one; and stops a writer at its cell
-abbrev pub wholeRuns : List (Case lock)
-wholeRuns =
+abbrev pub whole_runs : List (Case lock)
+whole_runs =
     runs (away 1 5 []) (SharedStart 0 ∷ SharedFinish 0 ∷ []) 0 2 (0 ∷ 1 ∷ 0 ∷ 0 ∷ 0 ∷ 5 ∷ 0 ∷ 0 ∷ 0 ∷ 1 ∷ 0 ∷ 1 ∷ []) (6 ∷ 2 ∷ 0 ∷ 0 ∷ 0 ∷ 0 ∷ 5 ∷ [])
     ∷ runs (away 1 5 []) (ExcStart ∷ ExcCheckCount ∷ ExcFinish ∷ ExcRelease 6 ∷ SharedStart 0 ∷ SharedFinish 0 ∷ []) 0 6
     (0 ∷ 1 ∷ 0 ∷ 0 ∷ 0 ∷ 6 ∷ 0 ∷ 0 ∷ 0 ∷ 1 ∷ 0 ∷ 1 ∷ []) (5 ∷ 1 ∷ 0 ∷ 0 ∷ 0 ∷ 5 ∷ 6 ∷ 2 ∷ 0 ∷ 0 ∷ 0 ∷ 0 ∷ 6 ∷ [])
@@ -143,8 +143,8 @@ wholeRuns =
     ∷ []
 
 -- P2: a fresh lock has exactly the asked width, all counts 0, unlocked, storing the record; width 0 or 17 is 5, with a state of zeros
-abbrev pub freshCases : List (Start (ℕ × ℕ))
-freshCases =
+abbrev pub fresh_cases : List (Start (ℕ × ℕ))
+fresh_cases =
     starts (1, 16909060) 0 (0 ∷ 1 ∷ 1 ∷ 2 ∷ 3 ∷ 4 ∷ 0 ∷ 0 ∷ 0 ∷ nobody)
     ∷ starts (2, 0) 0 (0 ∷ 1 ∷ 0 ∷ 0 ∷ 0 ∷ 0 ∷ 0 ∷ 0 ∷ 0 ∷ zeros 6)
     ∷ starts (16, 5) 0 (0 ∷ 1 ∷ 0 ∷ 0 ∷ 0 ∷ 5 ∷ 0 ∷ 0 ∷ 0 ∷ zeros 48)
@@ -153,32 +153,32 @@ freshCases =
     ∷ []
 
 -- rows with one thing wrong in each: the code, the place, the image, whether it is sound, the log
-abbrev pub wrongCases : List (Case lock)
-wrongCases =
+abbrev pub wrong_cases : List (Case lock)
+wrong_cases =
     runs (away 1 5 (readers 1 0 ∷ [])) (SharedFinish 0 ∷ []) 12 1 (0 ∷ 1 ∷ 0 ∷ 0 ∷ 0 ∷ 5 ∷ 0 ∷ 0 ∷ 0 ∷ 1 ∷ 0 ∷ 1 ∷ []) (6 ∷ 2 ∷ 0 ∷ 0 ∷ 0 ∷ 0 ∷ 5 ∷ [])
     ∷ runs (away 1 5 (readers 1 0 ∷ [])) (SharedFinish 0 ∷ []) 0 0 (0 ∷ 1 ∷ 0 ∷ 0 ∷ 0 ∷ 5 ∷ 0 ∷ 0 ∷ 0 ∷ 1 ∷ 0 ∷ 1 ∷ []) (6 ∷ 2 ∷ 0 ∷ 0 ∷ 0 ∷ 0 ∷ 5 ∷ [])
     ∷ does (away 1 5 (readers 1 0 ∷ [])) (SharedFinish 0) (0 ∷ 1 ∷ 0 ∷ 0 ∷ 0 ∷ 5 ∷ 0 ∷ 0 ∷ 0 ∷ 1 ∷ 1 ∷ 0 ∷ []) (6 ∷ 2 ∷ 0 ∷ 0 ∷ 0 ∷ 0 ∷ 5 ∷ [])
-    ∷ refusesUnsound (away 1 5 []) (SharedStart 1) 11 (0 ∷ 1 ∷ 0 ∷ 0 ∷ 0 ∷ 5 ∷ 0 ∷ 0 ∷ 0 ∷ nobody)
+    ∷ refuses_unsound (away 1 5 []) (SharedStart 1) 11 (0 ∷ 1 ∷ 0 ∷ 0 ∷ 0 ∷ 5 ∷ 0 ∷ 0 ∷ 0 ∷ nobody)
     ∷ does (away 1 5 (readers 1 0 ∷ [])) (SharedFinish 0) (0 ∷ 1 ∷ 0 ∷ 0 ∷ 0 ∷ 5 ∷ 0 ∷ 0 ∷ 0 ∷ 1 ∷ 0 ∷ 1 ∷ []) []
     ∷ []
 
 -- and of a fresh lock: the code, the image
-abbrev pub wrongFresh : List (Start (ℕ × ℕ))
-wrongFresh =
+abbrev pub wrong_fresh : List (Start (ℕ × ℕ))
+wrong_fresh =
     starts (1, 5) 5 (0 ∷ 1 ∷ 0 ∷ 0 ∷ 0 ∷ 5 ∷ 0 ∷ 0 ∷ 0 ∷ nobody)
     ∷ starts (1, 5) 0 (0 ∷ 1 ∷ 0 ∷ 0 ∷ 0 ∷ 6 ∷ 0 ∷ 0 ∷ 0 ∷ nobody)
     ∷ []
 
 -- ---------- the machine's answers are the tables'
 
-abbrev freshCode : ℕ × ℕ → ℕ
-freshCode a = (fresh_of a.0 a.1).code
+abbrev fresh_code : ℕ × ℕ → ℕ
+fresh_code a = (fresh_of a.0 a.1).code
 
-abbrev freshMade : ℕ × ℕ → State
-freshMade a = (fresh_of a.0 a.1).state
+abbrev fresh_made : ℕ × ℕ → State
+fresh_made a = (fresh_of a.0 a.1).state
 
 abbrev pub Tabled : Type 0
 Tabled =
-    (allRight lock sound imageBytes entryBytes excCases && (allRight lock sound imageBytes entryBytes sharedCases
-    && (allRight lock sound imageBytes entryBytes wholeRuns && (allStarted lock sound imageBytes entryBytes freshCode freshMade freshCases
-    && (allWrong lock sound imageBytes entryBytes wrongCases && noneStarted lock sound imageBytes entryBytes freshCode freshMade wrongFresh))))) ≡ true
+    (all_right lock sound image_bytes entry_bytes exc_cases && (all_right lock sound image_bytes entry_bytes shared_cases
+    && (all_right lock sound image_bytes entry_bytes whole_runs && (all_started lock sound image_bytes entry_bytes fresh_code fresh_made fresh_cases
+    && (all_wrong lock sound image_bytes entry_bytes wrong_cases && none_started lock sound image_bytes entry_bytes fresh_code fresh_made wrong_fresh))))) ≡ true

@@ -7,8 +7,8 @@ use Rattle.lock.specs.declared.state.Head.{Head}
 use Rattle.lock.specs.declared.state.State.{State}
 
 -- the writer holds the guard, checks the cells, or is away
-abbrev pub writerSound : Head → Bool
-writerSound h =
+abbrev pub writer_sound : Head → Bool
+writer_sound h =
     cond h.guard
     (not h.pending && (not h.stored && (eqb h.t 0 && (eqb h.cursor 0 && h.locked))))
     (h.stored
@@ -17,23 +17,23 @@ writerSound h =
     (not h.locked && eqb h.cursor 0))
 
 -- and the width is in its limits
-abbrev pub headSound : Head → Bool
-headSound h = not (eqb h.width 0) && (not (ltb limit.width h.width) && writerSound h)
+abbrev pub head_sound : Head → Bool
+head_sound h = not (eqb h.width 0) && (not (ltb limit.width h.width) && writer_sound h)
 
 -- no reader guard may stand where the writer has checked, nor anywhere while it holds the guard
-abbrev pub mustBeClear : Head → ℕ → Bool
-mustBeClear h i = cond h.guard true (cond h.pending (ltb i h.cursor) false)
+abbrev pub must_be_clear : Head → ℕ → Bool
+must_be_clear h i = cond h.guard true (cond h.pending (ltb i h.cursor) false)
 
 -- a cell in use counts its pending readers and its guards, no more than the counter's limit
-abbrev pub usedSound : Head → ℕ → Cell → Bool
-usedSound h i c = not (ltb limit.counter c.count) && (eqb c.count (c.pending + c.guards) && cond (mustBeClear h i) (eqb c.guards 0) true)
+abbrev pub used_sound : Head → ℕ → Cell → Bool
+used_sound h i c = not (ltb limit.counter c.count) && (eqb c.count (c.pending + c.guards) && cond (must_be_clear h i) (eqb c.guards 0) true)
 
 -- one that is not in use is zero
-abbrev pub unusedSound : Cell → Bool
-unusedSound c = eqb c.count 0 && (eqb c.pending 0 && eqb c.guards 0)
+abbrev pub unused_sound : Cell → Bool
+unused_sound c = eqb c.count 0 && (eqb c.pending 0 && eqb c.guards 0)
 
-abbrev pub cellSound : Head → ℕ → Cell → Bool
-cellSound h i c = cond (ltb i h.width) (usedSound h i c) (unusedSound c)
+abbrev pub cell_sound : Head → ℕ → Cell → Bool
+cell_sound h i c = cond (ltb i h.width) (used_sound h i c) (unused_sound c)
 
 abbrev pub sound : State → Bool
-sound s = headSound s.head && every (cellSound s.head) 0 s.cells
+sound s = head_sound s.head && every (cell_sound s.head) 0 s.cells

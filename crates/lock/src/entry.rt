@@ -1,6 +1,6 @@
 // What an accepted step logs, and its bytes.
 ghost use Rattle.rows.specs.Stores.{Laid};
-ghost use Rattle.lock.specs.Image.{entryBytes};
+ghost use Rattle.lock.specs.Image.{entry_bytes};
 
 #[derive(Drop)]
 pub enum Entry {
@@ -12,7 +12,7 @@ pub enum Entry {
 
 // The entry's bytes at a place of the log, all or nothing; the answer is the place after them.
 pub fn put_entry(log: &mut [u8], at: usize, e: Entry) -> usize
-    ensures { Laid log.old at (entryBytes e) result log.new }
+    ensures { Laid log.old at (entry_bytes e) result log.new }
 {
     match e {
         Entry::Withdrawn { t } => put_withdrawn(log, at, t),
@@ -21,7 +21,7 @@ pub fn put_entry(log: &mut [u8], at: usize, e: Entry) -> usize
 }
 
 fn put_withdrawn(log: &mut [u8], at: usize, t: u32) -> usize
-    ensures { Laid log.old at (entryBytes (Entry.Withdrawn t)) result log.new }
+    ensures { Laid log.old at (entry_bytes (Entry.Withdrawn t)) result log.new }
 {
     if log.len() < 6 {
         return at;
@@ -37,7 +37,7 @@ fn put_withdrawn(log: &mut [u8], at: usize, t: u32) -> usize
 }
 
 fn put_granted(log: &mut [u8], at: usize, r: u8, t: u32) -> usize
-    ensures { Laid log.old at (entryBytes (Entry.Granted r t)) result log.new }
+    ensures { Laid log.old at (entry_bytes (Entry.Granted r t)) result log.new }
 {
     if log.len() < 7 {
         return at;

@@ -2,8 +2,8 @@
 // their own: they say whether there is such a cell.
 ghost use Rattle.std.specs.Prelude.{◌≡◌};
 ghost use Rattle.machine.specs.Check.{first};
-ghost use Rattle.lock.specs.Lock.{insideTests, sharedFinishTests};
-ghost use Rattle.lock.specs.Moved.{startedCell, finishedCell, releasedCell};
+ghost use Rattle.lock.specs.Lock.{inside_tests, shared_finish_tests};
+ghost use Rattle.lock.specs.Moved.{started_cell, finished_cell, released_cell};
 
 use super::state::{Cell, Head};
 use machine::codes;
@@ -17,7 +17,7 @@ pub struct CellMoved {
 
 // r is a cell of the lock.
 pub fn inside(h: Head, r: u8) -> u8
-    ensures { result ≡ first (insideTests h r) }
+    ensures { result ≡ first (inside_tests h r) }
 {
     if r < h.width {
         return codes::ACCEPTED;
@@ -27,7 +27,7 @@ pub fn inside(h: Head, r: u8) -> u8
 
 // The tests of shared_finish on the head: the lock test stands here, and not at shared_start.
 pub fn may_finish(h: Head, r: u8) -> u8
-    ensures { result ≡ first (sharedFinishTests h r) }
+    ensures { result ≡ first (shared_finish_tests h r) }
 {
     if r < h.width {
         if h.locked {
@@ -40,7 +40,7 @@ pub fn may_finish(h: Head, r: u8) -> u8
 
 // One reader more announces itself, locked or not.
 pub fn shared_start(c: Cell) -> CellMoved
-    ensures { result ≡ startedCell c }
+    ensures { result ≡ started_cell c }
 {
     if c.count < limits::COUNTER {
         if c.pending < limits::COUNTER {
@@ -67,7 +67,7 @@ pub fn shared_start(c: Cell) -> CellMoved
 
 // A pending reader gets its guard.
 pub fn shared_finish(c: Cell) -> CellMoved
-    ensures { result ≡ finishedCell c }
+    ensures { result ≡ finished_cell c }
 {
     if 0 < c.pending {
         if c.guards < limits::COUNTER {
@@ -94,7 +94,7 @@ pub fn shared_finish(c: Cell) -> CellMoved
 
 // A guard that carries t is given back: all guards carry the record in store.
 pub fn shared_release(h: Head, c: Cell, t: u32) -> CellMoved
-    ensures { result ≡ releasedCell h c t }
+    ensures { result ≡ released_cell h c t }
 {
     if 0 < c.guards {
         if h.stored {

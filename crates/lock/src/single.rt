@@ -2,7 +2,7 @@
 ghost use Rattle.std.specs.Prelude.{◌≡◌, true, ◌≤◌, ◌<◌, length};
 ghost use Rattle.schedule.specs.Limits as limit;
 ghost use Rattle.schedule.specs.declared.steps.LockStep.TheVariants.{ExcStart, ExcCheckCount, ExcFinish, ExcRelease, SharedStart, SharedFinish, SharedRelease};
-ghost use Rattle.lock.specs.Lock.{with_head, withCell};
+ghost use Rattle.lock.specs.Lock.{with_head, with_cell};
 ghost use Rattle.lock.specs.Sound as test;
 ghost use Rattle.lock.specs.Single.{Singled, Applied, quietly, answer};
 
@@ -187,7 +187,7 @@ fn with_head(s: State, m: HeadMoved, logged: usize) -> Answer
 
 fn with_cell(s: State, i: usize, m: CellMoved, logged: usize) -> Answer
     requires { i < limit.width }
-    ensures { result ≡ answer (withCell s i m.cell) logged m.code }
+    ensures { result ≡ answer (with_cell s i m.cell) logged m.code }
 {
     let c = m.cell;
     let mut after = s;

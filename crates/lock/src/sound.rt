@@ -1,7 +1,7 @@
 // The test of a made-up state: one walk over the cells.
 ghost use Rattle.std.specs.Prelude.{◌≡◌};
 ghost use Rattle.rows.specs.Walk.{every};
-ghost use Rattle.lock.specs.Sound.{sound, headSound, cellSound, mustBeClear};
+ghost use Rattle.lock.specs.Sound.{sound, head_sound, cell_sound, must_be_clear};
 
 use super::state::{Cell, Head, State};
 use schedule::limits;
@@ -17,7 +17,7 @@ pub fn is_sound(s: State) -> bool
 }
 
 fn cells_sound(s: State) -> bool
-    ensures { result ≡ every (cellSound s.head) 0 s.cells }
+    ensures { result ≡ every (cell_sound s.head) 0 s.cells }
 {
     let h = s.head;
     let mut i: usize = 0;
@@ -34,7 +34,7 @@ fn cells_sound(s: State) -> bool
 
 // The writer holds the guard, checks the cells, or is away.
 fn head_sound(h: Head) -> bool
-    ensures { result ≡ headSound h }
+    ensures { result ≡ head_sound h }
 {
     if h.width == 0 {
         return false;
@@ -74,7 +74,7 @@ fn head_sound(h: Head) -> bool
 
 // No reader guard stands where the writer has checked, nor anywhere while it holds the guard.
 fn must_be_clear(h: Head, i: usize) -> bool
-    ensures { result ≡ mustBeClear h i }
+    ensures { result ≡ must_be_clear h i }
 {
     if h.guard {
         return true;
@@ -87,7 +87,7 @@ fn must_be_clear(h: Head, i: usize) -> bool
 
 // A cell in use counts its pending readers and its guards; one that is not in use is zero.
 fn cell_sound(h: Head, i: usize, c: Cell) -> bool
-    ensures { result ≡ cellSound h i c }
+    ensures { result ≡ cell_sound h i c }
 {
     if i < h.width as usize {
         if limits::COUNTER < c.count {

@@ -5,8 +5,8 @@ ghost use Rattle.rows.specs.Bytes.{big};
 ghost use Rattle.rows.specs.Stores.{Laid};
 ghost use Rattle.rows.specs.Walk.{pieces};
 ghost use Rattle.schedule.specs.Limits as limit;
-ghost use Rattle.lock.specs.Lock.{emptyLock, fresh_of};
-ghost use Rattle.lock.specs.Image.{imageBytes, headBytes, cellBytes, inUse};
+ghost use Rattle.lock.specs.Lock.{empty_lock, fresh_of};
+ghost use Rattle.lock.specs.Image.{image_bytes, head_bytes, cell_bytes, in_use};
 
 use machine::codes;
 use schedule::limits;
@@ -58,7 +58,7 @@ pub fn fresh(width: u8, t: u32) -> Made
 
 // No writer, no reader.
 fn idle(width: u8, t: u32, stored: bool, code: u8) -> Made
-    ensures { result ≡ record { state = emptyLock width t stored; code = code } }
+    ensures { result ≡ record { state = empty_lock width t stored; code = code } }
 {
     let head = Head {
         t,
@@ -81,7 +81,7 @@ fn idle(width: u8, t: u32, stored: bool, code: u8) -> Made
 
 // The image at the front of the buffer, or nothing where it does not fit; the answer is its length.
 pub fn image(s: State, out: &mut [u8]) -> usize
-    ensures { Laid out.old 0 (imageBytes s) result out.new }
+    ensures { Laid out.old 0 (image_bytes s) result out.new }
 {
     let h = s.head;
     let n = in_use(h.width);
@@ -94,7 +94,7 @@ pub fn image(s: State, out: &mut [u8]) -> usize
 
 // How many of the row are in use; in a made-up state no more than there are.
 fn in_use(width: u8) -> usize
-    ensures value { result ≡ inUse width }
+    ensures value { result ≡ in_use width }
     ensures upper_bound { result ≤ limit.width }
 {
     let n = width as usize;
@@ -105,7 +105,7 @@ fn in_use(width: u8) -> usize
 }
 
 fn put_head(out: &mut [u8], h: Head) -> usize
-    ensures { Laid out.old 0 (headBytes h) result out.new }
+    ensures { Laid out.old 0 (head_bytes h) result out.new }
 {
     if out.len() < 9 {
         return 0;
@@ -138,7 +138,7 @@ fn put_writer(out: &mut [u8], at: usize, h: Head) -> usize
 fn put_cells(out: &mut [u8], at: usize, s: State, n: usize) -> usize
     requires n_le_width { n ≤ limit.width }
     requires n_in_bounds { at + 3 * n ≤ length out.old }
-    ensures { Laid out.old at (pieces cellBytes (take n s.cells)) result out.new }
+    ensures { Laid out.old at (pieces cell_bytes (take n s.cells)) result out.new }
 {
     let mut i: usize = 0;
     let mut p = at;

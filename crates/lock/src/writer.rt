@@ -2,8 +2,8 @@
 // answers the head after it, or the code of the first test that fails and the head as it was.
 ghost use Rattle.std.specs.Prelude.{◌≡◌};
 ghost use Rattle.machine.specs.Check.{first};
-ghost use Rattle.lock.specs.Lock.{excCheckCountTests};
-ghost use Rattle.lock.specs.Moved.{startedHead, checkedHead, finishedHead, releasedHead};
+ghost use Rattle.lock.specs.Lock.{exc_check_count_tests};
+ghost use Rattle.lock.specs.Moved.{started_head, checked_head, finished_head, released_head};
 
 use super::state::{Cell, Head};
 use machine::codes;
@@ -16,7 +16,7 @@ pub struct HeadMoved {
 }
 
 pub fn exc_start(h: Head) -> HeadMoved
-    ensures { result ≡ startedHead h }
+    ensures { result ≡ started_head h }
 {
     if h.locked {
         return HeadMoved {
@@ -41,7 +41,7 @@ pub fn exc_start(h: Head) -> HeadMoved
 
 // The tests of exc_check_count on the head: which cell is next is known once they hold.
 pub fn may_check(h: Head) -> u8
-    ensures { result ≡ first (excCheckCountTests h) }
+    ensures { result ≡ first (exc_check_count_tests h) }
 {
     if h.pending {
         if h.cursor < h.width {
@@ -54,7 +54,7 @@ pub fn may_check(h: Head) -> u8
 
 // exc_check_count past the cell c.
 pub fn exc_check_count(h: Head, c: Cell) -> HeadMoved
-    ensures { result ≡ checkedHead h c }
+    ensures { result ≡ checked_head h c }
 {
     if c.count == 0 {
         if h.cursor < limits::COUNTER {
@@ -85,7 +85,7 @@ pub fn exc_check_count(h: Head, c: Cell) -> HeadMoved
 
 // exc_finish withdraws the record.
 pub fn exc_finish(h: Head) -> HeadMoved
-    ensures { result ≡ finishedHead h }
+    ensures { result ≡ finished_head h }
 {
     if h.pending {
         if h.cursor == h.width {
@@ -116,7 +116,7 @@ pub fn exc_finish(h: Head) -> HeadMoved
 
 // exc_release puts a record in store.
 pub fn exc_release(h: Head, t: u32) -> HeadMoved
-    ensures { result ≡ releasedHead h t }
+    ensures { result ≡ released_head h t }
 {
     if h.guard {
         let after = Head {

@@ -6,48 +6,48 @@ use native.Mathlib.Omega.{arith}
 use borrow.Author.Tests.{eqb-false, ltb-false}
 use lib.Dec.{eqb, ltb}
 use Rattle.rows.proofs.Cases.{on}
-use Rattle.machine.proofs.Steps.{code-accepted}
+use Rattle.machine.proofs.Steps.{code_accepted}
 use Rattle.schedule.specs.Limits as limit
-use Rattle.schedule.specs.Answers.{refusedAs, Leaves}
-use Rattle.schedule.specs.Running.{restRun}
+use Rattle.schedule.specs.Answers.{refused_as, Leaves}
+use Rattle.schedule.specs.Running.{rest_run}
 use Rattle.schedule.specs.declared.answer.Answer.{Answer}
-use Rattle.schedule.proofs.Languages.{lock-lawful}
-use Rattle.schedule.proofs.Running.{Carries, bad-leaves, made-leaves}
+use Rattle.schedule.proofs.Languages.{lock_lawful}
+use Rattle.schedule.proofs.Running.{Carries, bad_leaves, made_leaves}
 use Rattle.lock.specs.Lock.{lock, fresh_of}
 use Rattle.lock.specs.Refined.{Sound}
 use Rattle.lock.specs.declared.state.Made.{Made}
-use Rattle.lock.proofs.Writes.{logs-short, image-small}
-use Rattle.lock.proofs.Sounds.{fresh-means}
-use Rattle.lock.proofs.Kept.{accepted-sound}
-use Rattle.lock_run.specs.Run.{runner, restOfFile}
+use Rattle.lock.proofs.Writes.{logs_short, image_small}
+use Rattle.lock.proofs.Sounds.{fresh_means}
+use Rattle.lock.proofs.Kept.{accepted_sound}
+use Rattle.lock_run.specs.Run.{runner, rest_of_file}
 
 abbrev pub carries : Carries runner
 carries =
     record {
-      lawful = lock-lawful;
-      short = logs-short;
-      small = image-small;
-      kept = λ q x z k. accepted-sound q x k (code-accepted lock q x z);
+      lawful = lock_lawful;
+      short = logs_short;
+      small = image_small;
+      kept = λ q x z k. accepted_sound q x k (code_accepted lock q x z);
     }
 
-sound-fresh : (width t : ℕ) → (fresh_of width t).code ≡ 0 → Sound (fresh_of width t).state
-sound-fresh width t z =
+sound_fresh : (width t : ℕ) → (fresh_of width t).code ≡ 0 → Sound (fresh_of width t).state
+sound_fresh width t z =
     on (eqb width 0)
     (λ b. absurd (omega (arith, rw b at z)))
     (λ b. on (ltb limit.width width)
     (λ d. absurd (omega (arith, rw (b, d) at z)))
     (λ d. rw (b, d)
-    (fresh-means width t (omega (arith, eqb-false width 0 b)) (ltb-false limit.width width d))))
+    (fresh_means width t (omega (arith, eqb-false width 0 b)) (ltb-false limit.width width d))))
 
 module _ (width t : ℕ) (made : Made) (e : made ≡ fresh_of width t) where
-  pub fresh-good : made.code ≡ 0 → Sound made.state
-  fresh-good z = rw e (sound-fresh width t (rw e at z))
+  pub fresh_good : made.code ≡ 0 → Sound made.state
+  fresh_good z = rw e (sound_fresh width t (rw e at z))
 
   -- bad parameters are answered with their code; what a run from the lock that is made leaves is what the rest of the file comes to
   module _ (f : List ℕ) (from : ℕ) (log image : List ℕ) where
-    pub fresh-refused : (made.code ≡ 0 → ⊥) → (r : Answer) → r ≡ refusedAs made.code 0 → Leaves (restOfFile f from width t log image) r log image
-    fresh-refused n r q = rw (← e) (bad-leaves runner made.code made.state f from log image n r q)
+    pub fresh_refused : (made.code ≡ 0 → ⊥) → (r : Answer) → r ≡ refused_as made.code 0 → Leaves (rest_of_file f from width t log image) r log image
+    fresh_refused n r q = rw (← e) (bad_leaves runner made.code made.state f from log image n r q)
 
-    pub fresh-leaves : made.code ≡ 0 → (r : Answer) (log' image' : List ℕ) → Leaves (restRun runner made.state f from log image) r log' image'
-        → Leaves (restOfFile f from width t log image) r log' image'
-    fresh-leaves z r log' image' d = rw (← e) (made-leaves runner made.code made.state f from log image z r log' image' d)
+    pub fresh_leaves : made.code ≡ 0 → (r : Answer) (log' image' : List ℕ) → Leaves (rest_run runner made.state f from log image) r log' image'
+        → Leaves (rest_of_file f from width t log image) r log' image'
+    fresh_leaves z r log' image' d = rw (← e) (made_leaves runner made.code made.state f from log image z r log' image' d)

@@ -4,9 +4,9 @@ use mathlib.Core.List.{List}
 use Prim.Native.Nat.{ℕ}
 use Rattle.schedule.specs.Answers.{Leaves}
 use Rattle.schedule.specs.declared.answer.Answer.{Answer}
-use Rattle.schedule.proofs.Settled.{leaves-settled}
-use Rattle.lock_run.specs.Run.{restOfFile}
+use Rattle.schedule.proofs.Settled.{leaves_settled}
+use Rattle.lock_run.specs.Run.{rest_of_file}
 
-pub rest-settled : (f : List ℕ) (from width t : ℕ) (log image : List ℕ) {r q : Answer} {k m i j : List ℕ}
-    → Leaves (restOfFile f from width t log image) r k i → Leaves (restOfFile f from width t log image) q m j → (r ≡ q) × (k ≡ m) × (i ≡ j)
-rest-settled f from width t log image = leaves-settled (restOfFile f from width t log image)
+pub rest_settled : (f : List ℕ) (from width t : ℕ) (log image : List ℕ) {r q : Answer} {k m i j : List ℕ}
+    → Leaves (rest_of_file f from width t log image) r k i → Leaves (rest_of_file f from width t log image) q m j → (r ≡ q) × (k ≡ m) × (i ≡ j)
+rest_settled f from width t log image = leaves_settled (rest_of_file f from width t log image)

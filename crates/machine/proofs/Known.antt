@@ -11,22 +11,22 @@ use borrow.Author.Tests.{eqb-true, eqb-false}
 use Rattle.rows.proofs.Cases.{on, clash}
 
 -- a number that cannot be another
-pub must-be : (n k : ℕ) → ((n ≡ k → ⊥) → ⊥) → n ≡ k
-must-be n k h = on (eqb n k) (λ b. eqb-true n k b) (λ b. absurd (h (eqb-false n k b)))
+pub must_be : (n k : ℕ) → ((n ≡ k → ⊥) → ⊥) → n ≡ k
+must_be n k h = on (eqb n k) (λ b. eqb-true n k b) (λ b. absurd (h (eqb-false n k b)))
 
 module _ {A : Type 0} where
   -- an option that cannot be empty, or filled
-  pub must-hold : (p : Option A) → (p ≡ none → ⊥) → (a : A) × (p ≡ some a)
-  must-hold none n = absurd (n refl)
-  must-hold (some a) n = (a, refl)
+  pub must_hold : (p : Option A) → (p ≡ none → ⊥) → (a : A) × (p ≡ some a)
+  must_hold none n = absurd (n refl)
+  must_hold (some a) n = (a, refl)
 
-  pub must-lack : (p : Option A) → ((p ≡ none → ⊥) → ⊥) → p ≡ none
-  must-lack none n = refl
-  must-lack (some a) n = absurd (n (λ e. clash (cc)))
+  pub must_lack : (p : Option A) → ((p ≡ none → ⊥) → ⊥) → p ≡ none
+  must_lack none n = refl
+  must_lack (some a) n = absurd (n (λ e. clash (cc)))
 
   -- it holds one value
-  pub one-held : {p : Option A} {a b : A} → p ≡ some a → p ≡ some b → a ≡ b
-  one-held e f = cc
+  pub one_held : {p : Option A} {a b : A} → p ≡ some a → p ≡ some b → a ≡ b
+  one_held e f = cc
 
   -- filled by a flag: what the flag is, and what it holds
   pub there : (b : Bool) (x y : A) → cond b (some x) none ≡ some y → (b ≡ true) × (x ≡ y)
@@ -34,11 +34,11 @@ module _ {A : Type 0} where
   there false x y e = clash (cc)
 
   -- two of them that are equal, with z under a flag that is off
-  pub there-same : (b c : Bool) (x y z : A) → (b ≡ false → x ≡ z) → (c ≡ false → y ≡ z) → cond b (some x) none ≡ cond c (some y) none → (b ≡ c) × (x ≡ y)
-  there-same true true x y z p q e = (refl, cc)
-  there-same true false x y z p q e = clash (cc)
-  there-same false true x y z p q e = clash (cc)
-  there-same false false x y z p q e = (refl, rw (p refl, q refl))
+  pub there_same : (b c : Bool) (x y z : A) → (b ≡ false → x ≡ z) → (c ≡ false → y ≡ z) → cond b (some x) none ≡ cond c (some y) none → (b ≡ c) × (x ≡ y)
+  there_same true true x y z p q e = (refl, cc)
+  there_same true false x y z p q e = clash (cc)
+  there_same false true x y z p q e = clash (cc)
+  there_same false false x y z p q e = (refl, rw (p refl, q refl))
 
   -- two rows of one length that read alike
   pub rows_alike : (xs ys : List A) (d : A) → length xs ≡ length ys → ((i : ℕ) → get_or xs i d ≡ get_or ys i d) → xs ≡ ys

@@ -11,17 +11,17 @@ use Rattle.machine.specs.Multiset.{Multiset, insert, remove}
 -- ---------- one more, one less: at t, and at any other number
 
 module _ (m : Multiset ℕ) (t : ℕ) where
-  pub insert-here : insert eqb t m t ≡ m t + 1
-  insert-here = rw (eq-eqb t t refl)
+  pub insert_here : insert eqb t m t ≡ m t + 1
+  insert_here = rw (eq-eqb t t refl)
 
-  pub insert-other : (u : ℕ) → ¬ (u ≡ t) → insert eqb t m u ≡ m u
-  insert-other u n = rw (ne_eqb u t n) (omega arith)
+  pub insert_other : (u : ℕ) → ¬ (u ≡ t) → insert eqb t m u ≡ m u
+  insert_other u n = rw (ne_eqb u t n) (omega arith)
 
-  pub remove-here : remove eqb t m t ≡ m t - 1
-  remove-here = rw (eq-eqb t t refl)
+  pub remove_here : remove eqb t m t ≡ m t - 1
+  remove_here = rw (eq-eqb t t refl)
 
-  pub remove-other : (u : ℕ) → ¬ (u ≡ t) → remove eqb t m u ≡ m u
-  remove-other u n = rw (ne_eqb u t n) (omega arith)
+  pub remove_other : (u : ℕ) → ¬ (u ≡ t) → remove eqb t m u ≡ m u
+  remove_other u n = rw (ne_eqb u t n) (omega arith)
 
 -- ---------- a multiset of one value
 
@@ -33,12 +33,12 @@ module _ (t n : ℕ) where
   pub only_here : only t n t ≡ n
   only_here = rw (eq-eqb t t refl)
 
-  pub only-other : (u : ℕ) → ¬ (u ≡ t) → only t n u ≡ 0
-  only-other u h = rw (ne_eqb u t h)
+  pub only_other : (u : ℕ) → ¬ (u ≡ t) → only t n u ≡ 0
+  only_other u h = rw (ne_eqb u t h)
 
   -- one t more, one t less: it stays a multiset of t
-  pub insert-at-only : (u : ℕ) → insert eqb t (only t n) u ≡ only t (n + 1) u
-  insert-at-only u = on (eqb u t) (λ b. rw b) (λ b. rw b (omega arith))
+  pub insert_at_only : (u : ℕ) → insert eqb t (only t n) u ≡ only t (n + 1) u
+  insert_at_only u = on (eqb u t) (λ b. rw b) (λ b. rw b (omega arith))
 
-  pub remove-at-only : (u : ℕ) → remove eqb t (only t n) u ≡ only t (n - 1) u
-  remove-at-only u = on (eqb u t) (λ b. rw b) (λ b. rw b (omega arith))
+  pub remove_at_only : (u : ℕ) → remove eqb t (only t n) u ≡ only t (n - 1) u
+  remove_at_only u = on (eqb u t) (λ b. rw b) (λ b. rw b (omega arith))

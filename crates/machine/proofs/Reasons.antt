@@ -12,7 +12,7 @@ use Rattle.machine.specs.Codes as code
 use Rattle.machine.specs.Check.{Check, first, All}
 use Rattle.machine.specs.Machine.{Machine, code_of, Accepted}
 use Rattle.machine.specs.Sourced.{Line, Clear, Applies, First, Sourced, Reason, Enabled, Inductive, Complete, Upholds}
-use Rattle.machine.proofs.Steps.{code-accepted}
+use Rattle.machine.proofs.Steps.{code_accepted}
 
 -- ---------- tests that tell lines
 
@@ -35,31 +35,31 @@ pub telling : {b : Bool} {A R : Type 0} → (b ≡ false → A) → (b ≡ true 
 telling f n r = (f, λ e. (n e, r e))
 
 -- the code of tests that tell the lines is that of the first line that applies
-told-first : (ls : List Line) (ts : List Check) → Tells ls ts → (n : ℕ) → first ts ≡ n → (n ≡ 0 → ⊥) → First ls n
-told-first [] [] w n e z = absurd (z (sym e))
-told-first [] (t ∷ ts) w n e z = absurd w
-told-first (l ∷ ls) [] w n e z = absurd (z (sym e))
-told-first (l ∷ ls) (t ∷ ts) w n e z = on (eqb t.code l.code)
+told_first : (ls : List Line) (ts : List Check) → Tells ls ts → (n : ℕ) → first ts ≡ n → (n ≡ 0 → ⊥) → First ls n
+told_first [] [] w n e z = absurd (z (sym e))
+told_first [] (t ∷ ts) w n e z = absurd w
+told_first (l ∷ ls) [] w n e z = absurd (z (sym e))
+told_first (l ∷ ls) (t ∷ ts) w n e z = on (eqb t.code l.code)
     (λ b.
     let v : (t.holds ≡ false → l.Lacks) × (t.holds ≡ true → Tells (l ∷ ls) ts) = rw b at w in
     on t.holds
-    (λ h. told-first (l ∷ ls) ts (v.1 h) n (rw h at e) z)
+    (λ h. told_first (l ∷ ls) ts (v.1 h) n (rw h at e) z)
     (λ h. inl (sym (eqb-true t.code l.code b) ∙ (rw h at e), v.0 h)))
     (λ b.
     let v : (l.Lacks → ⊥) × Tells ls (t ∷ ts) = rw b at w in
-    inr (v.0, told-first ls (t ∷ ts) v.1 n e z))
+    inr (v.0, told_first ls (t ∷ ts) v.1 n e z))
 
 -- and where all hold none applies
-told-clear : (ls : List Line) (ts : List Check) → Tells ls ts → All ts → Clear ls
-told-clear [] ts w a = tt
-told-clear (l ∷ ls) [] w a = (w.0, told-clear ls [] w.1 a)
-told-clear (l ∷ ls) (t ∷ ts) w a = on (eqb t.code l.code)
+told_clear : (ls : List Line) (ts : List Check) → Tells ls ts → All ts → Clear ls
+told_clear [] ts w a = tt
+told_clear (l ∷ ls) [] w a = (w.0, told_clear ls [] w.1 a)
+told_clear (l ∷ ls) (t ∷ ts) w a = on (eqb t.code l.code)
     (λ b.
     let v : (t.holds ≡ false → l.Lacks) × (t.holds ≡ true → Tells (l ∷ ls) ts) = rw b at w in
-    told-clear (l ∷ ls) ts (v.1 a.0) a.1)
+    told_clear (l ∷ ls) ts (v.1 a.0) a.1)
     (λ b.
     let v : (l.Lacks → ⊥) × Tells ls (t ∷ ts) = rw b at w in
-    (v.0, told-clear ls (t ∷ ts) v.1 a))
+    (v.0, told_clear ls (t ∷ ts) v.1 a))
 
 -- ---------- where no line applies none is the first; and one only is
 
@@ -68,10 +68,10 @@ clear_none [] n k f = f
 clear_none (l ∷ ls) n k (inl f) = k.0 f.1
 clear_none (l ∷ ls) n k (inr f) = clear_none ls n k.1 f.1
 
-pub clear-below : (ls : List Line) (n : ℕ) → Clear ls → Applies ls n → ⊥
-clear-below [] n k f = f
-clear-below (l ∷ ls) n k (inl f) = k.0 f.1
-clear-below (l ∷ ls) n k (inr f) = clear-below ls n k.1 f
+pub clear_below : (ls : List Line) (n : ℕ) → Clear ls → Applies ls n → ⊥
+clear_below [] n k f = f
+clear_below (l ∷ ls) n k (inl f) = k.0 f.1
+clear_below (l ∷ ls) n k (inr f) = clear_below ls n k.1 f
 
 pub first_one : (ls : List Line) (n k : ℕ) → First ls n → First ls k → n ≡ k
 first_one [] n k f g = absurd f
@@ -90,62 +90,62 @@ pub record Owed {m : Machine} (o : Sourced m) (Inv : o.Source → Type 0) (Good 
   pub inductive : Inductive o Inv
   pub goes : (y : o.Transition) (a : o.Source) → Inv a → Clear (o.lines a y) → (to : o.Source) × o.Moves a y to
   pub clear : (y : o.Transition) (a to : o.Source) → Inv a → o.Moves a y to → (Applies (o.lines a y) code.full → ⊥) → Clear (o.lines a y)
-  pub moves-one : (y : o.Transition) (a p q : o.Source) → Inv a → o.Moves a y p → o.Moves a y q → p ≡ q
-  pub hands-one : (y : o.Transition) (a : o.Source) (es fs : List m.Entry) → Inv a → o.HandsOut a y es → o.HandsOut a y fs → es ≡ fs
+  pub moves_one : (y : o.Transition) (a p q : o.Source) → Inv a → o.Moves a y p → o.Moves a y q → p ≡ q
+  pub hands_one : (y : o.Transition) (a : o.Source) (es fs : List m.Entry) → Inv a → o.HandsOut a y es → o.HandsOut a y fs → es ≡ fs
   -- the two together
   pub inv : (s : m.State) → Good s → Inv (o.abs s)
   pub tells : (s : m.State) (x : m.Step) → Good s → Tells (o.lines (o.abs s) (o.label x)) (m.tests s x)
   pub moves : (s : m.State) (x : m.Step) → Good s → Accepted m s x → o.Moves (o.abs s) (o.label x) (o.abs (m.next s x))
   pub logs : (s : m.State) (x : m.Step) → Good s → Accepted m s x → o.HandsOut (o.abs s) (o.label x) (m.logs s x)
   pub good : (s : m.State) (x : m.Step) → Good s → Accepted m s x → Good (m.next s x)
-  pub abs-tells : (s t : m.State) → Good s → Good t → o.abs s ≡ o.abs t → s ≡ t
+  pub abs_tells : (s t : m.State) → Good s → Good t → o.abs s ≡ o.abs t → s ≡ t
 
 module _ {m : Machine} (o : Sourced m) (Inv : o.Source → Type 0) (Good : m.State → Type 0) (w : Owed o Inv Good) where
   pub complete : Complete o Inv
   complete =
       record {
-        clear-leads = λ a y i k. let t = w.goes y a i k in record { to = t.0; moves = t.1; below = clear-below (o.lines a y) code.full k };
-        leads-clear = λ a y i e. w.clear y a e.to i e.moves e.below;
+        clear_leads = λ a y i k. let t = w.goes y a i k in record { to = t.0; moves = t.1; below = clear_below (o.lines a y) code.full k };
+        leads_clear = λ a y i e. w.clear y a e.to i e.moves e.below;
       }
 
   module _ (s : m.State) (x : m.Step) (g : Good s) where
     abbrev ls : List Line
     ls = o.lines (o.abs s) (o.label x)
 
-    accepted-clear : Accepted m s x → Clear ls
-    accepted-clear a = told-clear ls (m.tests s x) (w.tells s x g) a
+    accepted_clear : Accepted m s x → Clear ls
+    accepted_clear a = told_clear ls (m.tests s x) (w.tells s x g) a
 
-    code-reason : (c : ℕ) → code_of m s x ≡ c → (c ≡ 0 → ⊥) → Reason o (o.abs s) (o.label x) c
-    code-reason c e z = told-first ls (m.tests s x) (w.tells s x g) c e z
+    code_reason : (c : ℕ) → code_of m s x ≡ c → (c ≡ 0 → ⊥) → Reason o (o.abs s) (o.label x) c
+    code_reason c e z = told_first ls (m.tests s x) (w.tells s x g) c e z
 
-    accepted-enabled : Accepted m s x → Enabled o s x
-    accepted-enabled a = complete.clear-leads (o.abs s) (o.label x) (w.inv s g) (accepted-clear a)
+    accepted_enabled : Accepted m s x → Enabled o s x
+    accepted_enabled a = complete.clear_leads (o.abs s) (o.label x) (w.inv s g) (accepted_clear a)
 
-    enabled-accepted : Enabled o s x → Accepted m s x
-    enabled-accepted e = on (eqb (code_of m s x) 0)
-        (λ b. code-accepted m s x (eqb-true (code_of m s x) 0 b))
+    enabled_accepted : Enabled o s x → Accepted m s x
+    enabled_accepted e = on (eqb (code_of m s x) 0)
+        (λ b. code_accepted m s x (eqb-true (code_of m s x) 0 b))
         (λ b. absurd (clear_none ls (code_of m s x)
-        (complete.leads-clear (o.abs s) (o.label x) (w.inv s g) e) (code-reason (code_of m s x) refl (eqb-false (code_of m s x) 0 b))))
+        (complete.leads_clear (o.abs s) (o.label x) (w.inv s g) e) (code_reason (code_of m s x) refl (eqb-false (code_of m s x) 0 b))))
 
-    reason-code : (c : ℕ) → Reason o (o.abs s) (o.label x) c → (code_of m s x ≡ c) × (c ≡ 0 → ⊥)
-    reason-code c r =
-        let z : code_of m s x ≡ 0 → ⊥ = λ e. clear_none ls c (accepted-clear (code-accepted m s x e)) r in
-        let q = first_one ls (code_of m s x) c (code-reason (code_of m s x) refl z) r in
+    reason_code : (c : ℕ) → Reason o (o.abs s) (o.label x) c → (code_of m s x ≡ c) × (c ≡ 0 → ⊥)
+    reason_code c r =
+        let z : code_of m s x ≡ 0 → ⊥ = λ e. clear_none ls c (accepted_clear (code_accepted m s x e)) r in
+        let q = first_one ls (code_of m s x) c (code_reason (code_of m s x) refl z) r in
         (q, λ e. z (q ∙ e))
 
   pub upholds : Upholds o Good
   upholds =
       record {
         onto = w.onto;
-        accepted-enabled = accepted-enabled;
-        enabled-accepted = enabled-accepted;
-        code-reason = λ s x c g. code-reason s x g c;
-        reason-code = λ s x c g. reason-code s x g c;
-        accepted-moves = w.moves;
-        accepted-post = λ s x to g a v. w.moves-one (o.label x) (o.abs s) to (o.abs (m.next s x)) (w.inv s g) v (w.moves s x g a);
-        accepted-logs = w.logs;
-        accepted-only-logs = λ s x es g a h. w.hands-one (o.label x) (o.abs s) es (m.logs s x) (w.inv s g) h (w.logs s x g a);
-        accepted-safe = λ s x g a. w.inductive.safe (o.label x) (o.abs s) (o.abs (m.next s x)) (w.inv s g) (w.moves s x g a);
-        accepted-good = w.good;
-        abs-tells = w.abs-tells;
+        accepted_enabled = accepted_enabled;
+        enabled_accepted = enabled_accepted;
+        code_reason = λ s x c g. code_reason s x g c;
+        reason_code = λ s x c g. reason_code s x g c;
+        accepted_moves = w.moves;
+        accepted_post = λ s x to g a v. w.moves_one (o.label x) (o.abs s) to (o.abs (m.next s x)) (w.inv s g) v (w.moves s x g a);
+        accepted_logs = w.logs;
+        accepted_only_logs = λ s x es g a h. w.hands_one (o.label x) (o.abs s) es (m.logs s x) (w.inv s g) h (w.logs s x g a);
+        accepted_safe = λ s x g a. w.inductive.safe (o.label x) (o.abs s) (o.abs (m.next s x)) (w.inv s g) (w.moves s x g a);
+        accepted_good = w.good;
+        abs_tells = w.abs_tells;
       }

@@ -69,19 +69,19 @@ module _ (m : Machine) (s₀ : m.State) (I : History m → m.State → Type 0) (
 
 -- ---------- the counts of two histories, one after the other
 
-pub tick-add : (b : Bool) (n k : ℕ) → tick b (n + k) ≡ tick b n + k
-tick-add true n k = omega arith
-tick-add false n k = refl
+pub tick_add : (b : Bool) (n k : ℕ) → tick b (n + k) ≡ tick b n + k
+tick_add true n k = omega arith
+tick_add false n k = refl
 
-pub in-add : {E : Type 0} (q : E → Bool) (l : List E) (n k : ℕ) → in# q l (n + k) ≡ in# q l n + k
-in-add q [] n k = refl
-in-add q (x ∷ l) n k = ap (tick (q x)) (in-add q l n k) ∙ tick-add (q x) (in# q l n) k
+pub in_add : {E : Type 0} (q : E → Bool) (l : List E) (n k : ℕ) → in# q l (n + k) ≡ in# q l n + k
+in_add q [] n k = refl
+in_add q (x ∷ l) n k = ap (tick (q x)) (in_add q l n k) ∙ tick_add (q x) (in# q l n) k
 
 module _ {X E : Type 0} where
-  pub did-append : (p : X → Bool) (g h : List (Event X E)) → did# p (g ++ h) ≡ did# p g + did# p h
-  did-append p [] h = omega arith
-  did-append p (e ∷ g) h = ap (tick (p e.did)) (did-append p g h) ∙ tick-add (p e.did) (did# p g) (did# p h)
+  pub did_append : (p : X → Bool) (g h : List (Event X E)) → did# p (g ++ h) ≡ did# p g + did# p h
+  did_append p [] h = omega arith
+  did_append p (e ∷ g) h = ap (tick (p e.did)) (did_append p g h) ∙ tick_add (p e.did) (did# p g) (did# p h)
 
-  pub logged-append : (q : E → Bool) (g h : List (Event X E)) → logged# q (g ++ h) ≡ logged# q g + logged# q h
-  logged-append q [] h = omega arith
-  logged-append q (e ∷ g) h = ap (in# q e.wrote) (logged-append q g h) ∙ in-add q e.wrote (logged# q g) (logged# q h)
+  pub logged_append : (q : E → Bool) (g h : List (Event X E)) → logged# q (g ++ h) ≡ logged# q g + logged# q h
+  logged_append q [] h = omega arith
+  logged_append q (e ∷ g) h = ap (in# q e.wrote) (logged_append q g h) ∙ in_add q e.wrote (logged# q g) (logged# q h)

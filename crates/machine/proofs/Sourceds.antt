@@ -11,31 +11,31 @@ use Rattle.rows.proofs.Cases.{on}
 use Rattle.machine.specs.Machine.{Machine, code_of}
 use Rattle.machine.specs.Replay.{Replayed, replay, AllAccepted, after, entries, Stopped, Finished, Told}
 use Rattle.machine.specs.Sourced.{Sourced, AllEnabled, Route, stay, move, StopsAt, Exact, Upholds}
-use Rattle.machine.proofs.Steps.{accepted-code}
-use Rattle.machine.proofs.Replays.{told, only, zero-all, all-replay}
+use Rattle.machine.proofs.Steps.{accepted_code}
+use Rattle.machine.proofs.Replays.{told, only, zero_all, all_replay}
 
 module _ {m : Machine} (o : Sourced m) (Good : m.State → Type 0) (u : Upholds o Good) where
   -- ---------- accepted and enabled, step after step
 
-  pub all-accepted : (s : m.State) (xs : List m.Step) → Good s → AllEnabled o s xs → AllAccepted m s xs
-  all-accepted s [] g e = tt
-  all-accepted s (x ∷ xs) g e =
-      let a = u.enabled-accepted s x g e.0 in
-      (a, all-accepted (m.next s x) xs (u.accepted-good s x g a) e.1)
+  pub all_accepted : (s : m.State) (xs : List m.Step) → Good s → AllEnabled o s xs → AllAccepted m s xs
+  all_accepted s [] g e = tt
+  all_accepted s (x ∷ xs) g e =
+      let a = u.enabled_accepted s x g e.0 in
+      (a, all_accepted (m.next s x) xs (u.accepted_good s x g a) e.1)
 
-  pub all-enabled : (s : m.State) (xs : List m.Step) → Good s → AllAccepted m s xs → AllEnabled o s xs
-  all-enabled s [] g a = tt
-  all-enabled s (x ∷ xs) g a = (u.accepted-enabled s x g a.0, all-enabled (m.next s x) xs (u.accepted-good s x g a.0) a.1)
+  pub all_enabled : (s : m.State) (xs : List m.Step) → Good s → AllAccepted m s xs → AllEnabled o s xs
+  all_enabled s [] g a = tt
+  all_enabled s (x ∷ xs) g a = (u.accepted_enabled s x g a.0, all_enabled (m.next s x) xs (u.accepted_good s x g a.0) a.1)
 
-  pub after-good : (s : m.State) (xs : List m.Step) → Good s → AllAccepted m s xs → Good (after m s xs)
-  after-good s [] g a = g
-  after-good s (x ∷ xs) g a = after-good (m.next s x) xs (u.accepted-good s x g a.0) a.1
+  pub after_good : (s : m.State) (xs : List m.Step) → Good s → AllAccepted m s xs → Good (after m s xs)
+  after_good s [] g a = g
+  after_good s (x ∷ xs) g a = after_good (m.next s x) xs (u.accepted_good s x g a.0) a.1
 
   -- accepted steps are a route of the source, and their entries what it hands out
-  pub accepted-route : (s : m.State) (xs : List m.Step) → Good s → AllAccepted m s xs → Route o (o.abs s) xs (entries m s xs) (o.abs (after m s xs))
-  accepted-route s [] g a = stay
-  accepted-route s (x ∷ xs) g a =
-      move (u.accepted-moves s x g a.0) (u.accepted-safe s x g a.0) (u.accepted-logs s x g a.0) (accepted-route (m.next s x) xs (u.accepted-good s x g a.0) a.1)
+  pub accepted_route : (s : m.State) (xs : List m.Step) → Good s → AllAccepted m s xs → Route o (o.abs s) xs (entries m s xs) (o.abs (after m s xs))
+  accepted_route s [] g a = stay
+  accepted_route s (x ∷ xs) g a =
+      move (u.accepted_moves s x g a.0) (u.accepted_safe s x g a.0) (u.accepted_logs s x g a.0) (accepted_route (m.next s x) xs (u.accepted_good s x g a.0) a.1)
 
   -- ---------- a whole replay
 
@@ -47,7 +47,7 @@ module _ {m : Machine} (o : Sourced m) (Good : m.State → Type 0) (u : Upholds 
     t = told m s₀ xs
 
     reached : Good (after m s₀ (take r.place xs))
-    reached = after-good s₀ (take r.place xs) g t.accepted
+    reached = after_good s₀ (take r.place xs) g t.accepted
 
     -- the replay stopped at a step that is disabled, and those before it are enabled
     stopped : Finished m xs r ⊎ Stopped m xs r → (r.code ≡ 0 → ⊥) → StopsAt o s₀ xs r.place r.code
@@ -60,9 +60,9 @@ module _ {m : Machine} (o : Sourced m) (Good : m.State → Type 0) (u : Upholds 
           behind = f.rest;
           split = f.split;
           index = f.place;
-          enabled = all-enabled s₀ (take r.place xs) g t.accepted;
-          disabled = λ e. n (sym code ∙ accepted-code m _ f.step (u.enabled-accepted _ f.step reached e));
-          reason = u.code-reason _ f.step r.code reached code n;
+          enabled = all_enabled s₀ (take r.place xs) g t.accepted;
+          disabled = λ e. n (sym code ∙ accepted_code m _ f.step (u.enabled_accepted _ f.step reached e));
+          reason = u.code_reason _ f.step r.code reached code n;
         }
 
     -- a first disabled step is where the replay stops, with that code
@@ -70,7 +70,7 @@ module _ {m : Machine} (o : Sourced m) (Good : m.State → Type 0) (u : Upholds 
     refused k c p =
         let s = after m s₀ p.before in
         let q : Replayed m = record { code = c; place = length p.before; log = entries m s₀ p.before; state = s } in
-        let code = u.reason-code s p.step c (after-good s₀ p.before g (all-accepted s₀ p.before g p.enabled)) p.reason in
+        let code = u.reason_code s p.step c (after_good s₀ p.before g (all_accepted s₀ p.before g p.enabled)) p.reason in
         let seam : take (length p.before) xs ≡ p.before = rw p.split (take-append_seam p.before (p.step ∷ p.behind)) in
         let stop : Stopped m xs q =
         record {
@@ -82,24 +82,24 @@ module _ {m : Machine} (o : Sourced m) (Good : m.State → Type 0) (u : Upholds 
           nonzero = code.1;
         }
         in
-        let e : q ≡ r = only m s₀ xs q (record { accepted = rw seam (all-accepted s₀ p.before g p.enabled); state = rw seam; log = rw seam; ends = inr stop }) in
+        let e : q ≡ r = only m s₀ xs q (record { accepted = rw seam (all_accepted s₀ p.before g p.enabled); state = rw seam; log = rw seam; ends = inr stop }) in
         (sym (ap (λ (a : Replayed m). a.place) e) ∙ p.index, sym (ap (λ (a : Replayed m). a.code) e))
 
     accepts : AllEnabled o s₀ xs → (r.code ≡ 0) × (r.place ≡ length xs)
     accepts e =
-        let w = all-replay m s₀ xs (all-accepted s₀ xs g e) in
+        let w = all_replay m s₀ xs (all_accepted s₀ xs g e) in
         (ap (λ (a : Replayed m). a.code) w, ap (λ (a : Replayed m). a.place) w)
 
     pub exact : Exact o s₀ xs r
     exact =
         record {
-          all-enabled = λ z. all-enabled s₀ xs g (zero-all m s₀ xs z);
+          all_enabled = λ z. all_enabled s₀ xs g (zero_all m s₀ xs z);
           accepts = accepts;
           stops = stopped t.ends;
           refuses = refused;
           state = t.state;
           log = t.log;
-          route = rw (t.log, t.state) (accepted-route s₀ (take r.place xs) g t.accepted);
+          route = rw (t.log, t.state) (accepted_route s₀ (take r.place xs) g t.accepted);
         }
 
 -- ---------- one answer goes exactly by the source
@@ -108,16 +108,16 @@ module _ {m : Machine} (o : Sourced m) (s : m.State) (xs : List m.Step) (r q : R
   -- where all is enabled both end, and else both stop at the first disabled step
   same_end : (r.place ≡ q.place) × (r.code ≡ q.code)
   same_end = on (eqb q.code 0)
-      (λ b. let z = eqb-true q.code 0 b in let a = d.all-enabled z in
+      (λ b. let z = eqb-true q.code 0 b in let a = d.all_enabled z in
       let x = e.accepts a in let y = d.accepts a in
       (x.1 ∙ sym y.1, x.0 ∙ sym y.0))
       (λ b. e.refuses q.place q.code (d.stops (eqb-false q.code 0 b)))
 
-  same-state : r.state ≡ q.state
-  same-state = e.state ∙ ap (λ (n : ℕ). after m s (take n xs)) same_end.0 ∙ sym d.state
+  same_state : r.state ≡ q.state
+  same_state = e.state ∙ ap (λ (n : ℕ). after m s (take n xs)) same_end.0 ∙ sym d.state
 
   same_log : r.log ≡ q.log
   same_log = e.log ∙ ap (λ (n : ℕ). entries m s (take n xs)) same_end.0 ∙ sym d.log
 
-  pub one-exact : r ≡ q
-  one-exact = λ i. record { code = same_end.1 i; place = same_end.0 i; log = same_log i; state = same-state i }
+  pub one_exact : r ≡ q
+  one_exact = λ i. record { code = same_end.1 i; place = same_end.0 i; log = same_log i; state = same_state i }

@@ -6,8 +6,8 @@ abbrev pub accepted : ℕ
 accepted = 0
 
 -- under 4 bytes, or wrong body length
-abbrev pub wrongLength : ℕ
-wrongLength = 1
+abbrev pub wrong_length : ℕ
+wrong_length = 1
 
 -- a version that is not 1
 abbrev pub version : ℕ

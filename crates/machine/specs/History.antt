@@ -40,9 +40,9 @@ module _ {X E : Type 0} where
   steps_of [] = []
   steps_of (e ∷ h) = steps_of h ++ (e.did ∷ [])
 
-  abbrev pub logOf : List (Event X E) → List E
-  logOf [] = []
-  logOf (e ∷ h) = logOf h ++ e.wrote
+  abbrev pub log_of : List (Event X E) → List E
+  log_of [] = []
+  log_of (e ∷ h) = log_of h ++ e.wrote
 
   -- at each step of a history: P of what came before it, of the step and of what it logged
   abbrev pub AtEach : (List (Event X E) → X → List E → Type 0) → List (Event X E) → Type 0

@@ -5,16 +5,16 @@ use Rattle.rows.specs.Walk.{pieces}
 use Rattle.machine.specs.Machine.{Machine}
 use Rattle.machine.specs.Replay.{Replayed}
 
-module _ {S : Type 0} (stepAt : List ℕ → ℕ → S) (size_of : S → ℕ) where
+module _ {S : Type 0} (step_at : List ℕ → ℕ → S) (size_of : S → ℕ) where
   -- n steps of the file f from a place on, each as long as it says of itself
-  unfoldable pub stepsFrom : List ℕ → ℕ → ℕ → List S
-  stepsFrom f at zero = []
-  stepsFrom f at (suc n) = stepAt f at ∷ stepsFrom f (at + size_of (stepAt f at)) n
+  unfoldable pub steps_from : List ℕ → ℕ → ℕ → List S
+  steps_from f at zero = []
+  steps_from f at (suc n) = step_at f at ∷ steps_from f (at + size_of (step_at f at)) n
 
   -- and they all lie in the file
   unfoldable pub Formed : List ℕ → ℕ → ℕ → Type 0
   Formed f at zero = Unit {0}
-  Formed f at (suc n) = (at + size_of (stepAt f at) ≤ length f) × Formed f (at + size_of (stepAt f at)) n
+  Formed f at (suc n) = (at + size_of (step_at f at) ≤ length f) × Formed f (at + size_of (step_at f at)) n
 
 -- what a run of the loop leaves: its answer, and the log's bytes up to the place after the last entry
 pub record Left (m : Machine) : Type 0 where

@@ -5,8 +5,8 @@ use Rattle.std.specs.Prelude.{Bool, cond, List, ℕ, eqb}
 use Rattle.machine.specs.Codes as code
 use Rattle.machine.specs.Check.{Check, first}
 
-abbrev pub moveCode : List Check → Bool → ℕ
-moveCode tests fits = cond (eqb (first tests) 0) (cond fits code.accepted code.unsound) (first tests)
+abbrev pub move_code : List Check → Bool → ℕ
+move_code tests fits = cond (eqb (first tests) 0) (cond fits code.accepted code.unsound) (first tests)
 
-abbrev pub moveTo : {A : Type 0} → List Check → Bool → A → A → A
-moveTo tests fits to from = cond (eqb (first tests) 0) (cond fits to from) from
+abbrev pub move_to : {A : Type 0} → List Check → Bool → A → A → A
+move_to tests fits to from = cond (eqb (first tests) 0) (cond fits to from) from

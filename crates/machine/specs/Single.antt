@@ -14,20 +14,20 @@ pub record Single (m : Machine) : Type 0 where
   pub state : m.State
   pub wrote : List m.Entry
 
-abbrev pub handedBack : {m : Machine} → ℕ → m.State → Single m
-handedBack c s = record { code = c; state = s; wrote = [] }
+abbrev pub handed_back : {m : Machine} → ℕ → m.State → Single m
+handed_back c s = record { code = c; state = s; wrote = [] }
 
 -- with a test of soundness, and a log buffer that has room for any step's entries
 module _ (m : Machine) (sound : m.State → Bool) (room : ℕ) where
-  abbrev pub singleTests : m.State → m.Step → List ℕ → List Check
-  singleTests s x log = need code.room (leb room (length log)) ∷ need code.unsound (sound s) ∷ m.tests s x
+  abbrev pub single_tests : m.State → m.Step → List ℕ → List Check
+  single_tests s x log = need code.room (leb room (length log)) ∷ need code.unsound (sound s) ∷ m.tests s x
 
   abbrev pub single : m.State → Option m.Step → List ℕ → Single m
-  single s none log = handedBack code.malformed s
+  single s none log = handed_back code.malformed s
   single s (some x) log =
-      cond (eqb (first (singleTests s x log)) 0)
+      cond (eqb (first (single_tests s x log)) 0)
       (record { code = code.accepted; state = m.next s x; wrote = m.logs s x })
-      (handedBack (first (singleTests s x log)) s)
+      (handed_back (first (single_tests s x log)) s)
 
 -- ---------- the single step as a function that answers a record, and lays the entries over the front of a log
 

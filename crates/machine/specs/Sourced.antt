@@ -78,7 +78,7 @@ module _ {m : Machine} (o : Sourced m) where
   -- an answer r to the schedule xs that goes by the source
   pub record Exact (s₀ : m.State) (xs : List m.Step) (r : Replayed m) : Type 0 where
     -- 0 exactly if every step is enabled, with the number of steps ..
-    pub all-enabled : r.code ≡ 0 → AllEnabled s₀ xs
+    pub all_enabled : r.code ≡ 0 → AllEnabled s₀ xs
     pub accepts : AllEnabled s₀ xs → (r.code ≡ 0) × (r.place ≡ length xs)
     -- .. and else refused exactly at the first disabled step, by index and reason
     pub stops : (r.code ≡ 0 → ⊥) → StopsAt s₀ xs r.place r.code
@@ -96,28 +96,28 @@ pub record Inductive {m : Machine} (o : Sourced m) (Inv : o.Source → Type 0) :
 
 -- the table is the source's: under its invariants a transition leads somewhere, below the limit, exactly if no line of the table applies
 pub record Complete {m : Machine} (o : Sourced m) (Inv : o.Source → Type 0) : Type 0 where
-  pub clear-leads : (a : o.Source) (y : o.Transition) → Inv a → Clear (o.lines a y) → Leads o a y
-  pub leads-clear : (a : o.Source) (y : o.Transition) → Inv a → Leads o a y → Clear (o.lines a y)
+  pub clear_leads : (a : o.Source) (y : o.Transition) → Inv a → Clear (o.lines a y) → Leads o a y
+  pub leads_clear : (a : o.Source) (y : o.Transition) → Inv a → Leads o a y → Clear (o.lines a y)
 
 -- what is proved of each machine and its source, for the states that a schedule can reach
 pub record Upholds {m : Machine} (o : Sourced m) (Good : m.State → Type 0) : Type 0 where
   -- every transition of the source is some step's
   pub onto : (y : o.Transition) → (x : m.Step) × (o.label x ≡ y)
   -- a step is accepted exactly when it is enabled ..
-  pub accepted-enabled : (s : m.State) (x : m.Step) → Good s → Accepted m s x → Enabled o s x
-  pub enabled-accepted : (s : m.State) (x : m.Step) → Good s → Enabled o s x → Accepted m s x
+  pub accepted_enabled : (s : m.State) (x : m.Step) → Good s → Accepted m s x → Enabled o s x
+  pub enabled_accepted : (s : m.State) (x : m.Step) → Good s → Enabled o s x → Accepted m s x
   -- .. and refused exactly with the first line of the table that applies ..
-  pub code-reason : (s : m.State) (x : m.Step) (c : ℕ) → Good s → code_of m s x ≡ c → (c ≡ 0 → ⊥) → Reason o (o.abs s) (o.label x) c
-  pub reason-code : (s : m.State) (x : m.Step) (c : ℕ) → Good s → Reason o (o.abs s) (o.label x) c → (code_of m s x ≡ c) × (c ≡ 0 → ⊥)
+  pub code_reason : (s : m.State) (x : m.Step) (c : ℕ) → Good s → code_of m s x ≡ c → (c ≡ 0 → ⊥) → Reason o (o.abs s) (o.label x) c
+  pub reason_code : (s : m.State) (x : m.Step) (c : ℕ) → Good s → Reason o (o.abs s) (o.label x) c → (code_of m s x ≡ c) × (c ≡ 0 → ⊥)
   -- .. and accepted does what the source says: the state after is the source's, and no other is; the log is what the source hands out
-  pub accepted-moves : (s : m.State) (x : m.Step) → Good s → Accepted m s x → o.Moves (o.abs s) (o.label x) (o.abs (m.next s x))
-  pub accepted-post : (s : m.State) (x : m.Step) (to : o.Source) → Good s → Accepted m s x → o.Moves (o.abs s) (o.label x) to
+  pub accepted_moves : (s : m.State) (x : m.Step) → Good s → Accepted m s x → o.Moves (o.abs s) (o.label x) (o.abs (m.next s x))
+  pub accepted_post : (s : m.State) (x : m.Step) (to : o.Source) → Good s → Accepted m s x → o.Moves (o.abs s) (o.label x) to
       → to ≡ o.abs (m.next s x)
-  pub accepted-logs : (s : m.State) (x : m.Step) → Good s → Accepted m s x → o.HandsOut (o.abs s) (o.label x) (m.logs s x)
-  pub accepted-only-logs : (s : m.State) (x : m.Step) (es : List m.Entry) → Good s → Accepted m s x → o.HandsOut (o.abs s) (o.label x) es
+  pub accepted_logs : (s : m.State) (x : m.Step) → Good s → Accepted m s x → o.HandsOut (o.abs s) (o.label x) (m.logs s x)
+  pub accepted_only_logs : (s : m.State) (x : m.Step) (es : List m.Entry) → Good s → Accepted m s x → o.HandsOut (o.abs s) (o.label x) es
       → es ≡ m.logs s x
-  pub accepted-safe : (s : m.State) (x : m.Step) → Good s → Accepted m s x → o.Safe (o.abs s) (o.label x)
+  pub accepted_safe : (s : m.State) (x : m.Step) → Good s → Accepted m s x → o.Safe (o.abs s) (o.label x)
   -- the state after is one that a schedule can reach
-  pub accepted-good : (s : m.State) (x : m.Step) → Good s → Accepted m s x → Good (m.next s x)
+  pub accepted_good : (s : m.State) (x : m.Step) → Good s → Accepted m s x → Good (m.next s x)
   -- a state of the source is stood for by no other state
-  pub abs-tells : (s t : m.State) → Good s → Good t → o.abs s ≡ o.abs t → s ≡ t
+  pub abs_tells : (s t : m.State) → Good s → Good t → o.abs s ≡ o.abs t → s ≡ t

@@ -30,8 +30,8 @@ abbrev pub refuses : {m : Machine} → m.State → m.Step → ℕ → List ℕ �
 refuses s x c image = runs s (x ∷ []) c 0 image []
 
 -- a step that is refused in a state that is not sound: only so can each test be seen by itself
-abbrev pub refusesUnsound : {m : Machine} → m.State → m.Step → ℕ → List ℕ → Case m
-refusesUnsound s x c image = record { given = s; steps = x ∷ []; code = c; place = 0; image = image; sound = false; log = [] }
+abbrev pub refuses_unsound : {m : Machine} → m.State → m.Step → ℕ → List ℕ → Case m
+refuses_unsound s x c image = record { given = s; steps = x ∷ []; code = c; place = 0; image = image; sound = false; log = [] }
 
 -- a fresh machine asked for with these parameters: its code, and the image of what is answered
 pub record Start (P : Type 0) : Type 0 where
@@ -44,73 +44,73 @@ starts p c image = record { asked = p; code = c; image = image }
 
 -- ---------- the machine's answer is the row's
 
-module _ (m : Machine) (sound : m.State → Bool) (imageBytes : m.State → List ℕ) (entryBytes : m.Entry → List ℕ) where
+module _ (m : Machine) (sound : m.State → Bool) (image_bytes : m.State → List ℕ) (entry_bytes : m.Entry → List ℕ) where
   abbrev agrees : Case m → Replayed m → Bool
   agrees c r =
       (eqb r.code c.code && eqb r.place c.place)
-      && (alike (imageBytes r.state) c.image && (beq (sound r.state) c.sound && alike (pieces entryBytes r.log) c.log))
+      && (alike (image_bytes r.state) c.image && (beq (sound r.state) c.sound && alike (pieces entry_bytes r.log) c.log))
 
   -- the state that a row starts from is sound exactly if the one after it is
   abbrev pub right : Case m → Bool
   right c = beq (sound c.given) c.sound && agrees c (replay m c.given 0 c.steps)
 
   -- every row is right
-  abbrev pub allRight : List (Case m) → Bool
-  allRight cs = every (λ i c. right c) 0 cs
+  abbrev pub all_right : List (Case m) → Bool
+  all_right cs = every (λ i c. right c) 0 cs
 
   -- every row is wrong: so the test looks at everything that a row has
-  abbrev pub allWrong : List (Case m) → Bool
-  allWrong cs = every (λ i c. not (right c)) 0 cs
+  abbrev pub all_wrong : List (Case m) → Bool
+  all_wrong cs = every (λ i c. not (right c)) 0 cs
 
   -- the code and the state that a fresh machine is answered with
   module _ {P : Type 0} (code_of : P → ℕ) (state_of : P → m.State) where
     abbrev started : Start P → Bool
-    started r = eqb (code_of r.asked) r.code && alike (imageBytes (state_of r.asked)) r.image
+    started r = eqb (code_of r.asked) r.code && alike (image_bytes (state_of r.asked)) r.image
 
-    abbrev pub allStarted : List (Start P) → Bool
-    allStarted rs = every (λ i r. started r) 0 rs
+    abbrev pub all_started : List (Start P) → Bool
+    all_started rs = every (λ i r. started r) 0 rs
 
-    abbrev pub noneStarted : List (Start P) → Bool
-    noneStarted rs = every (λ i r. not (started r)) 0 rs
+    abbrev pub none_started : List (Start P) → Bool
+    none_started rs = every (λ i r. not (started r)) 0 rs
 
 -- ---------- a table leaves nothing out
 
 -- how many tests hold before the first that fails
-abbrev pub heldBefore : List Check → ℕ
-heldBefore [] = 0
-heldBefore (c ∷ cs) = cond c.holds (suc (heldBefore cs)) 0
+abbrev pub held_before : List Check → ℕ
+held_before [] = 0
+held_before (c ∷ cs) = cond c.holds (suc (held_before cs)) 0
 
 -- the test p of a row that is of one step
-abbrev pub onlyStep : {X : Type 0} → (X → Bool) → List X → Bool
-onlyStep p [] = false
-onlyStep p (x ∷ []) = p x
-onlyStep p (x ∷ (y ∷ ys)) = false
+abbrev pub only_step : {X : Type 0} → (X → Bool) → List X → Bool
+only_step p [] = false
+only_step p (x ∷ []) = p x
+only_step p (x ∷ (y ∷ ys)) = false
 
 -- f holds of each number below n
-abbrev pub everyBelow : ℕ → (ℕ → Bool) → Bool
-everyBelow zero f = true
-everyBelow (suc n) f = f n && everyBelow n f
+abbrev pub every_below : ℕ → (ℕ → Bool) → Bool
+every_below zero f = true
+every_below (suc n) f = f n && every_below n f
 
 module _ (m : Machine) (tag_of : m.Step → ℕ) where
   -- the row is of one step with this tag
   abbrev tagged : ℕ → Case m → Bool
-  tagged t c = onlyStep (λ x. eqb (tag_of x) t) c.steps
+  tagged t c = only_step (λ x. eqb (tag_of x) t) c.steps
 
   -- and i of its tests hold before the first that fails; all of them where it is accepted
-  abbrev stopsAt : ℕ → ℕ → Case m → Bool
-  stopsAt t i c = onlyStep (λ x. eqb (tag_of x) t && eqb (heldBefore (m.tests c.given x)) i) c.steps
+  abbrev stops_at : ℕ → ℕ → Case m → Bool
+  stops_at t i c = only_step (λ x. eqb (tag_of x) t && eqb (held_before (m.tests c.given x)) i) c.steps
 
   -- how many tests a row's step has
-  abbrev testsIn : m.State → List m.Step → ℕ
-  testsIn s [] = 0
-  testsIn s (x ∷ xs) = length (m.tests s x)
+  abbrev tests_in : m.State → List m.Step → ℕ
+  tests_in s [] = 0
+  tests_in s (x ∷ xs) = length (m.tests s x)
 
   -- how many tests the steps with this tag have: as many as in the first row of the tag
   abbrev tests# : ℕ → List (Case m) → ℕ
   tests# t [] = 0
-  tests# t (c ∷ cs) = cond (tagged t c) (testsIn c.given c.steps) (tests# t cs)
+  tests# t (c ∷ cs) = cond (tagged t c) (tests_in c.given c.steps) (tests# t cs)
 
   -- the tags 1 to n each have a row that is accepted, and for each of their tests one that this test refuses
-  abbrev pub leavesNothingOut : ℕ → List (Case m) → Bool
-  leavesNothingOut n cs =
-      everyBelow n (λ k. everyBelow (suc (tests# (suc k) cs)) (λ i. not (every (λ j c. not (stopsAt (suc k) i c)) 0 cs)))
+  abbrev pub leaves_nothing_out : ℕ → List (Case m) → Bool
+  leaves_nothing_out n cs =
+      every_below n (λ k. every_below (suc (tests# (suc k) cs)) (λ i. not (every (λ j c. not (stops_at (suc k) i c)) 0 cs)))

@@ -11,30 +11,30 @@ use lib.ListN.{length, drop, length-append}
 use lib.Seq.{drop-append-add}
 use Rattle.rows.specs.Bytes.{number, big, number_at}
 use Rattle.rows.specs.Walk.{every, pieces}
-use Rattle.rows.proofs.Bytes.{spelled, length-big, bytesAt-at, bytesAt-inside, bytesAt-outside, numberAt-one}
-use Rattle.rows.proofs.Walks.{every-all}
+use Rattle.rows.proofs.Bytes.{spelled, length_big, bytes_at_at, bytes_at_inside, bytes_at_outside, number_at_one}
+use Rattle.rows.proofs.Walks.{every_all}
 use Rattle.rows.proofs.Cases.{on, both_true}
 use Rattle.schedule.specs.Limits as limit
 use Rattle.counting.specs.declared.state.State as counting
 use Rattle.lock.specs.declared.state.Cell.{Cell}
 use Rattle.lock.specs.declared.state.State as lock
-use Rattle.lock.specs.Lock.{zeroCell}
+use Rattle.lock.specs.Lock.{zero_cell}
 use Rattle.flag.specs.declared.state.State as flag
 use Rattle.flat.specs.declared.state.Client.{Client}
 use Rattle.flat.specs.declared.state.Elem.{Elem}
 use Rattle.flat.specs.declared.state.State as flat
-use Rattle.lock.specs.Image.{cellBytes}
-use Rattle.raw.specs.Raw.{clientLong, elemLong, elemsAt, combinerAt, byte_at, rowFrom, countingFrom, countingBytes, cell_at, headBytes, lockFrom, lockBytes, flagFrom, flagBytes, clientAt, clientsFrom, clientBytes, elem_at, elemsFrom, elemBytes, combinerBytes, flatFrom, flatBytes}
-use Rattle.raw.proofs.Writes.{clients-length, elems-length}
+use Rattle.lock.specs.Image.{cell_bytes}
+use Rattle.raw.specs.Raw.{client_long, elem_long, elems_at, combiner_at, byte_at, row_from, counting_from, counting_bytes, cell_at, head_bytes, lock_from, lock_bytes, flag_from, flag_bytes, client_at, clients_from, client_bytes, elem_at, elems_from, elem_bytes, combiner_bytes, flat_from, flat_bytes}
+use Rattle.raw.proofs.Writes.{clients_length, elems_length}
 
 -- ---------- numbers, bytes and flags in their place
 
 -- a number behind pre
-number-at : (pre post : List ℕ) (w n at : ℕ) → at ≡ length pre → n < 256 ^ w → number_at (pre ++ (big w n ++ post)) at w ≡ n
-number-at pre post w n at p h = ap number (bytesAt-at pre (big w n) post at w p (sym (length-big w n))) ∙ spelled w n h
+number_at_lem : (pre post : List ℕ) (w n at : ℕ) → at ≡ length pre → n < 256 ^ w → number_at (pre ++ (big w n ++ post)) at w ≡ n
+number_at_lem pre post w n at p h = ap number (bytes_at_at pre (big w n) post at w p (sym (length_big w n))) ∙ spelled w n h
 
-byte-at : (b : ℕ) (pre post : List ℕ) (at : ℕ) → at ≡ length pre → byte_at (pre ++ (b ∷ post)) at ≡ b
-byte-at b pre post at p = ap number (bytesAt-at pre (b ∷ []) post at 1 p refl)
+byte_at_lem : (b : ℕ) (pre post : List ℕ) (at : ℕ) → at ≡ length pre → byte_at (pre ++ (b ∷ post)) at ≡ b
+byte_at_lem b pre post at p = ap number (bytes_at_at pre (b ∷ []) post at 1 p refl)
 
 -- what is read behind pre is read of the rest
 deeper : (pre rest : List ℕ) (at j w : ℕ) → at ≡ length pre → number_at (pre ++ rest) (at + j) w ≡ number_at rest j w
@@ -43,9 +43,9 @@ deeper pre rest at j w p =
     let gone : drop (at + j) (pre ++ rest) ≡ drop j rest = rw p (drop-append-add pre rest j) in
     on (leb (j + w) (length rest))
     (λ e. let h : j + w ≤ length rest = leb-true (j + w) (length rest) e in
-    rw (bytesAt-inside (pre ++ rest) (at + j) w (omega arith), bytesAt-inside rest j w h, gone))
+    rw (bytes_at_inside (pre ++ rest) (at + j) w (omega arith), bytes_at_inside rest j w h, gone))
     (λ e. let h : length rest < j + w = leb-false (j + w) (length rest) e in
-    rw (bytesAt-outside (pre ++ rest) (at + j) w (omega arith), bytesAt-outside rest j w h))
+    rw (bytes_at_outside (pre ++ rest) (at + j) w (omega arith), bytes_at_outside rest j w h))
 
 -- a flag's byte is not 0 where it is set
 set_back : (b : Bool) → not (eqb (bool_byte b) 0) ≡ b
@@ -54,17 +54,17 @@ set_back false = refl
 
 -- ---------- counting
 
-pub counting-back : (s : counting.State) → s.t < 256 ^ 4 → countingFrom (countingBytes s) ≡ s
-counting-back s h =
-    let raw = countingBytes s in
-    rw (number-at [] (s.count ∷ s.refs ∷ bool_byte s.present ∷ []) 4 s.t 0 refl h, numberAt-one raw 4, numberAt-one raw 5, numberAt-one raw 6, set_back s.present)
+pub counting_back : (s : counting.State) → s.t < 256 ^ 4 → counting_from (counting_bytes s) ≡ s
+counting_back s h =
+    let raw = counting_bytes s in
+    rw (number_at_lem [] (s.count ∷ s.refs ∷ bool_byte s.present ∷ []) 4 s.t 0 refl h, number_at_one raw 4, number_at_one raw 5, number_at_one raw 6, set_back s.present)
 
 -- ---------- a row, a piece of the same size for each entry, each read at its place
 
 module _ {A : Type 0} (f : A → List ℕ) (p : A → Bool) (k : ℕ) (read : List ℕ → ℕ → A) (at : ℕ → ℕ) (even : (x : A) → length (f x) ≡ k)
     (step : (j : ℕ) → at (j + 1) ≡ at j + k) (back : (x : A) → p x ≡ true → (pre post : List ℕ) (j : ℕ) → j ≡ length pre → read (pre ++ (f x ++ post)) j ≡ x) where
   row_back : (xs : List A) (raw pre post : List ℕ) (i : ℕ) → raw ≡ pre ++ (pieces f xs ++ post) → at i ≡ length pre → every (λ j x. p x) i xs ≡ true
-      → rowFrom (λ j. read raw (at j)) i (length xs) ≡ xs
+      → row_from (λ j. read raw (at j)) i (length xs) ≡ xs
   row_back [] raw pre post i e h t = refl
   row_back (x ∷ xs) raw pre post i e h t =
       let b = both_true (p x) (every (λ j y. p y) (i + 1) xs) t in
@@ -75,55 +75,55 @@ module _ {A : Type 0} (f : A → List ℕ) (p : A → Bool) (k : ℕ) (read : Li
       let place : at (i + 1) ≡ length (pre ++ f x) = omega (arith, step i, even x, length-append pre (f x)) in
       rw (first, row_back xs raw (pre ++ f x) post (i + 1) there place b.1)
 
-  row-whole : (xs : List A) (n : ℕ) (pre post : List ℕ) → length xs ≡ n → at 0 ≡ length pre → every (λ j x. p x) 0 xs ≡ true
-      → rowFrom (λ j. read (pre ++ (pieces f xs ++ post)) (at j)) 0 n ≡ xs
-  row-whole xs n pre post l h t = rw (← l) (row_back xs (pre ++ (pieces f xs ++ post)) pre post 0 refl h t)
+  row_whole : (xs : List A) (n : ℕ) (pre post : List ℕ) → length xs ≡ n → at 0 ≡ length pre → every (λ j x. p x) 0 xs ≡ true
+      → row_from (λ j. read (pre ++ (pieces f xs ++ post)) (at j)) 0 n ≡ xs
+  row_whole xs n pre post l h t = rw (← l) (row_back xs (pre ++ (pieces f xs ++ post)) pre post 0 refl h t)
 
 -- entries of which nothing is asked
 free : {A : Type 0} (d : A) (xs : List A) → every (λ j x. true) 0 xs ≡ true
-free d xs = every-all (λ j x. true) d xs (λ k h. refl)
+free d xs = every_all (λ j x. true) d xs (λ k h. refl)
 
 -- ---------- lock
 
-cell-back : (c : Cell) (pre post : List ℕ) (j : ℕ) → j ≡ length pre → cell_at (pre ++ (cellBytes c ++ post)) j ≡ c
-cell-back c pre post j p =
-    let rest = cellBytes c ++ post in
-    rw (byte-at c.count pre (c.pending ∷ c.guards ∷ post) j p, deeper pre rest j 1 1 p, numberAt-one rest 1, deeper pre rest j 2 1 p, numberAt-one rest 2)
+cell_back : (c : Cell) (pre post : List ℕ) (j : ℕ) → j ≡ length pre → cell_at (pre ++ (cell_bytes c ++ post)) j ≡ c
+cell_back c pre post j p =
+    let rest = cell_bytes c ++ post in
+    rw (byte_at_lem c.count pre (c.pending ∷ c.guards ∷ post) j p, deeper pre rest j 1 1 p, number_at_one rest 1, deeper pre rest j 2 1 p, number_at_one rest 2)
 
-pub lock-back : (s : lock.State) → s.head.t < 256 ^ 4 → length s.cells ≡ limit.width → lockFrom (lockBytes s) ≡ s
-lock-back s h l =
-    let raw = lockBytes s in
-    let front = headBytes s.head in
-    let cells = row-whole cellBytes (λ c. true) 3 cell_at (λ j. 10 + 3 * j) (λ c. refl) (λ j. omega arith) (λ c t. cell-back c) s.cells limit.width front [] l refl (free zeroCell s.cells) in
-    let t = number-at [] (drop 4 raw) 4 s.head.t 0 refl h in
+pub lock_back : (s : lock.State) → s.head.t < 256 ^ 4 → length s.cells ≡ limit.width → lock_from (lock_bytes s) ≡ s
+lock_back s h l =
+    let raw = lock_bytes s in
+    let front = head_bytes s.head in
+    let cells = row_whole cell_bytes (λ c. true) 3 cell_at (λ j. 10 + 3 * j) (λ c. refl) (λ j. omega arith) (λ c t. cell_back c) s.cells limit.width front [] l refl (free zero_cell s.cells) in
+    let t = number_at_lem [] (drop 4 raw) 4 s.head.t 0 refl h in
     rw (
-      rw (append-nil (pieces cellBytes s.cells)) at cells,
+      rw (append-nil (pieces cell_bytes s.cells)) at cells,
       t,
-      numberAt-one raw 4,
-      numberAt-one raw 5,
-      numberAt-one raw 6,
+      number_at_one raw 4,
+      number_at_one raw 5,
+      number_at_one raw 6,
       set_back s.head.locked,
-      numberAt-one raw 7,
+      number_at_one raw 7,
       set_back s.head.stored,
-      numberAt-one raw 8,
+      number_at_one raw 8,
       set_back s.head.pending,
-      numberAt-one raw 9,
+      number_at_one raw 9,
       set_back s.head.guard,
     )
 
 -- ---------- flag
 
 -- a byte for each entry: the pieces are the row
-bytes-pieces : (xs : List ℕ) → pieces (λ x. x ∷ []) xs ≡ xs
-bytes-pieces [] = refl
-bytes-pieces (x ∷ xs) = rw (bytes-pieces xs)
+bytes_pieces : (xs : List ℕ) → pieces (λ x. x ∷ []) xs ≡ xs
+bytes_pieces [] = refl
+bytes_pieces (x ∷ xs) = rw (bytes_pieces xs)
 
-pub flag-back : (s : flag.State) → length s.places ≡ limit.threads → flagFrom (flagBytes s) ≡ s
-flag-back s l =
-    let raw = flagBytes s in
+pub flag_back : (s : flag.State) → length s.places ≡ limit.threads → flag_from (flag_bytes s) ≡ s
+flag_back s l =
+    let raw = flag_bytes s in
     let front = s.threads ∷ s.pending ∷ bool_byte s.value ∷ [] in
-    let places = row-whole (λ x. x ∷ []) (λ x. true) 1 byte_at (λ j. 3 + j) (λ x. refl) (λ j. omega arith) (λ x t. byte-at x) s.places limit.threads front [] l refl (free 0 s.places) in
-    rw (rw (append-nil (pieces (λ (x : ℕ). x ∷ []) s.places), bytes-pieces s.places) at places, numberAt-one raw 0, numberAt-one raw 1, numberAt-one raw 2, set_back s.value)
+    let places = row_whole (λ x. x ∷ []) (λ x. true) 1 byte_at (λ j. 3 + j) (λ x. refl) (λ j. omega arith) (λ x t. byte_at_lem x) s.places limit.threads front [] l refl (free 0 s.places) in
+    rw (rw (append-nil (pieces (λ (x : ℕ). x ∷ []) s.places), bytes_pieces s.places) at places, number_at_one raw 0, number_at_one raw 1, number_at_one raw 2, set_back s.value)
 
 -- ---------- flat
 
@@ -131,23 +131,23 @@ flag-back s l =
 abbrev pub word : ℕ → Bool
 word n = ltb n (256 ^ 4)
 
-abbrev pub clientFits : Client → Bool
-clientFits c = word c.rid && (word c.req && word c.resp)
+abbrev pub client_fits : Client → Bool
+client_fits c = word c.rid && (word c.req && word c.resp)
 
-abbrev pub elemFits : Elem → Bool
-elemFits e = word e.rid
+abbrev pub elem_fits : Elem → Bool
+elem_fits e = word e.rid
 
 word_small : (n : ℕ) → word n ≡ true → n < 256 ^ 4
 word_small n t = ltb-true n (256 ^ 4) t
 
-client-back : (c : Client) → clientFits c ≡ true → (pre post : List ℕ) (j : ℕ) → j ≡ length pre → clientAt (pre ++ (clientBytes c ++ post)) j ≡ c
-client-back c t pre post j p =
+client_back : (c : Client) → client_fits c ≡ true → (pre post : List ℕ) (j : ℕ) → j ≡ length pre → client_at (pre ++ (client_bytes c ++ post)) j ≡ c
+client_back c t pre post j p =
     let fits = both_true (word c.rid) (word c.req && word c.resp) t in
     let more = both_true (word c.req) (word c.resp) fits.1 in
-    let rest = clientBytes c ++ post in
-    let first = number-at pre (drop 4 rest) 4 c.rid j p (word_small c.rid fits.0) in
-    let second = number-at (big 4 c.rid) (drop 8 rest) 4 c.req 4 refl (word_small c.req more.0) in
-    let third = number-at (big 4 c.rid ++ big 4 c.req) (drop 12 rest) 4 c.resp 8 refl (word_small c.resp more.1) in
+    let rest = client_bytes c ++ post in
+    let first = number_at_lem pre (drop 4 rest) 4 c.rid j p (word_small c.rid fits.0) in
+    let second = number_at_lem (big 4 c.rid) (drop 8 rest) 4 c.req 4 refl (word_small c.req more.0) in
+    let third = number_at_lem (big 4 c.rid ++ big 4 c.req) (drop 12 rest) 4 c.resp 8 refl (word_small c.resp more.1) in
     rw (
       first,
       deeper pre rest j 4 4 p,
@@ -155,49 +155,49 @@ client-back c t pre post j p =
       deeper pre rest j 8 4 p,
       third,
       deeper pre rest j 12 1 p,
-      numberAt-one rest 12,
+      number_at_one rest 12,
       set_back c.waiting,
       deeper pre rest j 13 1 p,
-      numberAt-one rest 13,
+      number_at_one rest 13,
       set_back c.asked,
       deeper pre rest j 14 1 p,
-      numberAt-one rest 14,
+      number_at_one rest 14,
       set_back c.told,
       deeper pre rest j 15 1 p,
-      numberAt-one rest 15,
+      number_at_one rest 15,
       set_back c.slot,
     )
 
-elem_back : (e : Elem) → elemFits e ≡ true → (pre post : List ℕ) (j : ℕ) → j ≡ length pre → elem_at (pre ++ (elemBytes e ++ post)) j ≡ e
+elem_back : (e : Elem) → elem_fits e ≡ true → (pre post : List ℕ) (j : ℕ) → j ≡ length pre → elem_at (pre ++ (elem_bytes e ++ post)) j ≡ e
 elem_back e t pre post j p =
-    let rest = elemBytes e ++ post in
-    rw (number-at pre (drop 4 rest) 4 e.rid j p (word_small e.rid t), deeper pre rest j 4 1 p, numberAt-one rest 4, set_back e.present)
+    let rest = elem_bytes e ++ post in
+    rw (number_at_lem pre (drop 4 rest) 4 e.rid j p (word_small e.rid t), deeper pre rest j 4 1 p, number_at_one rest 4, set_back e.present)
 
-module _ (s : flat.State) (long : length s.clients ≡ limit.clients) (wide : length s.elems ≡ limit.clients) (fit : every (λ j c. clientFits c) 0 s.clients ≡ true)
-    (fits : every (λ j e. elemFits e) 0 s.elems ≡ true) where
+module _ (s : flat.State) (long : length s.clients ≡ limit.clients) (wide : length s.elems ≡ limit.clients) (fit : every (λ j c. client_fits c) 0 s.clients ≡ true)
+    (fits : every (λ j e. elem_fits e) 0 s.elems ≡ true) where
   abbrev clients : List ℕ
-  clients = pieces clientBytes s.clients
+  clients = pieces client_bytes s.clients
 
   abbrev elems : List ℕ
-  elems = pieces elemBytes s.elems
+  elems = pieces elem_bytes s.elems
 
-  clients-back : clientsFrom (flatBytes s) ≡ s.clients
-  clients-back =
-      row-whole clientBytes clientFits clientLong clientAt (λ j. clientLong * j) (λ c. refl) (λ j. omega arith) client-back s.clients limit.clients [] (elems ++ combinerBytes s) long refl fit
+  clients_back : clients_from (flat_bytes s) ≡ s.clients
+  clients_back =
+      row_whole client_bytes client_fits client_long client_at (λ j. client_long * j) (λ c. refl) (λ j. omega arith) client_back s.clients limit.clients [] (elems ++ combiner_bytes s) long refl fit
 
-  elems-back : elemsFrom (flatBytes s) ≡ s.elems
-  elems-back =
-      let place = sym (clients-length s long wide) in
-      row-whole elemBytes elemFits elemLong elem_at (λ j. elemsAt + elemLong * j) (λ e. refl) (λ j. omega arith) elem_back s.elems limit.clients clients (combinerBytes s) wide place fits
+  elems_back : elems_from (flat_bytes s) ≡ s.elems
+  elems_back =
+      let place = sym (clients_length s long wide) in
+      row_whole elem_bytes elem_fits elem_long elem_at (λ j. elems_at + elem_long * j) (λ e. refl) (λ j. omega arith) elem_back s.elems limit.clients clients (combiner_bytes s) wide place fits
 
   -- the combiner stands behind both rows
-  behind : (j : ℕ) → number_at (flatBytes s) (combinerAt + j) 1 ≡ number_at (combinerBytes s) j 1
+  behind : (j : ℕ) → number_at (flat_bytes s) (combiner_at + j) 1 ≡ number_at (combiner_bytes s) j 1
   behind j =
-      let place : combinerAt ≡ length (clients ++ elems) =
-      omega (arith, clients-length s long wide, elems-length s long wide, length-append clients elems) in
-      rw (append_assoc clients elems (combinerBytes s)) at (deeper (clients ++ elems) (combinerBytes s) (combinerAt) j 1 place)
+      let place : combiner_at ≡ length (clients ++ elems) =
+      omega (arith, clients_length s long wide, elems_length s long wide, length-append clients elems) in
+      rw (append_assoc clients elems (combiner_bytes s)) at (deeper (clients ++ elems) (combiner_bytes s) (combiner_at) j 1 place)
 
-  pub flat_back : flatFrom (flatBytes s) ≡ s
+  pub flat_back : flat_from (flat_bytes s) ≡ s
   flat_back =
-      let b = combinerBytes s in
-      rw (clients-back, elems-back, behind 0, numberAt-one b 0, behind 1, numberAt-one b 1, behind 2, numberAt-one b 2, behind 3, numberAt-one b 3, set_back s.responding)
+      let b = combiner_bytes s in
+      rw (clients_back, elems_back, behind 0, number_at_one b 0, behind 1, number_at_one b 1, behind 2, number_at_one b 2, behind 3, number_at_one b 3, set_back s.responding)

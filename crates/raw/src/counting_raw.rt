@@ -1,7 +1,7 @@
 // The counting machine: t, count, refs, present.
 ghost use Rattle.std.specs.Prelude.{◌≡◌};
 ghost use Rattle.rows.specs.Stores.{Laid};
-ghost use Rattle.raw.specs.Raw.{countingFrom, countingBytes};
+ghost use Rattle.raw.specs.Raw.{counting_from, counting_bytes};
 
 use super::flags;
 use counting::state::State;
@@ -10,7 +10,7 @@ pub const LENGTH: usize = 7;
 
 // The state that the bytes tell; a byte that is not there is 0, and a flag is set by any byte but 0.
 pub fn counting_from(raw: &[u8]) -> State
-    ensures { result ≡ countingFrom raw.now }
+    ensures { result ≡ counting_from raw.now }
 {
     State {
         t: rows::get4(raw, 0),
@@ -22,7 +22,7 @@ pub fn counting_from(raw: &[u8]) -> State
 
 // The state's bytes over the front of the buffer, or nothing where they do not fit; the answer is how many.
 pub fn put_counting(raw: &mut [u8], s: State) -> usize
-    ensures { Laid raw.old 0 (countingBytes s) result raw.new }
+    ensures { Laid raw.old 0 (counting_bytes s) result raw.new }
 {
     if raw.len() < LENGTH {
         return 0;

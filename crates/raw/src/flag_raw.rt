@@ -1,7 +1,7 @@
 // The flag: threads, pending, value, then each thread's place.
 ghost use Rattle.std.specs.Prelude.{◌≡◌};
 ghost use Rattle.rows.specs.Stores.{Laid};
-ghost use Rattle.raw.specs.Raw.{flagPlaces, flagFrom, flagBytes};
+ghost use Rattle.raw.specs.Raw.{flag_places, flag_from, flag_bytes};
 
 use super::flags;
 use flag::state::State;
@@ -12,7 +12,7 @@ pub const HEAD: usize = 3;
 pub const LENGTH: usize = HEAD + limits::THREADS;
 
 pub fn flag_from(raw: &[u8]) -> State
-    ensures { result ≡ flagFrom raw.now }
+    ensures { result ≡ flag_from raw.now }
 {
     let places = places_from(raw);
     State {
@@ -24,7 +24,7 @@ pub fn flag_from(raw: &[u8]) -> State
 }
 
 fn places_from(raw: &[u8]) -> [u8; limits::THREADS]
-    ensures { result ≡ flagPlaces raw.now }
+    ensures { result ≡ flag_places raw.now }
 {
     let mut places = [0u8; limits::THREADS];
     let mut k: usize = 0;
@@ -36,7 +36,7 @@ fn places_from(raw: &[u8]) -> [u8; limits::THREADS]
 }
 
 pub fn put_flag(raw: &mut [u8], s: State) -> usize
-    ensures { Laid raw.old 0 (flagBytes s) result raw.new }
+    ensures { Laid raw.old 0 (flag_bytes s) result raw.new }
 {
     if raw.len() < LENGTH {
         return 0;

@@ -3,7 +3,7 @@ ghost use Rattle.std.specs.Prelude.{◌≡◌, ◌+◌, ◌*◌, ◌≤◌, leng
 ghost use Rattle.rows.specs.Stores.{Laid};
 ghost use Rattle.rows.specs.Walk.{pieces};
 ghost use Rattle.schedule.specs.Limits as limit;
-ghost use Rattle.raw.specs.Raw.{clientLong, elemLong, combinerLong, elemsAt, combinerAt, clientAt, clientsFrom, elem_at, elemsFrom, flatFrom, clientBytes, elemBytes, combinerBytes, flatBytes};
+ghost use Rattle.raw.specs.Raw.{client_long, elem_long, combiner_long, elems_at, combiner_at, client_at, clients_from, elem_at, elems_from, flat_from, client_bytes, elem_bytes, combiner_bytes, flat_bytes};
 
 use super::flags;
 use flat::state::{Client, Elem, State};
@@ -23,7 +23,7 @@ pub const COMBINER: usize = ELEMS + ELEM * limits::CLIENTS;
 pub const LENGTH: usize = COMBINER + REST;
 
 pub fn flat_from(raw: &[u8]) -> State
-    ensures { result ≡ flatFrom raw.now }
+    ensures { result ≡ flat_from raw.now }
 {
     let clients = clients_from(raw);
     let elems = elems_from(raw);
@@ -38,7 +38,7 @@ pub fn flat_from(raw: &[u8]) -> State
 }
 
 fn clients_from(raw: &[u8]) -> [Client; limits::CLIENTS]
-    ensures { result ≡ clientsFrom raw.now }
+    ensures { result ≡ clients_from raw.now }
 {
     let none = Client {
         rid: 0,
@@ -60,8 +60,8 @@ fn clients_from(raw: &[u8]) -> [Client; limits::CLIENTS]
 }
 
 fn client_at(raw: &[u8], at: usize) -> Client
-    requires { at ≤ elemsAt }
-    ensures { result ≡ clientAt raw.now at }
+    requires { at ≤ elems_at }
+    ensures { result ≡ client_at raw.now at }
 {
     Client {
         rid: rows::get4(raw, at),
@@ -75,7 +75,7 @@ fn client_at(raw: &[u8], at: usize) -> Client
 }
 
 fn elems_from(raw: &[u8]) -> [Elem; limits::CLIENTS]
-    ensures { result ≡ elemsFrom raw.now }
+    ensures { result ≡ elems_from raw.now }
 {
     let none = Elem {
         rid: 0,
@@ -92,7 +92,7 @@ fn elems_from(raw: &[u8]) -> [Elem; limits::CLIENTS]
 }
 
 fn elem_at(raw: &[u8], at: usize) -> Elem
-    requires { at ≤ combinerAt }
+    requires { at ≤ combiner_at }
     ensures { result ≡ elem_at raw.now at }
 {
     Elem {
@@ -102,7 +102,7 @@ fn elem_at(raw: &[u8], at: usize) -> Elem
 }
 
 pub fn put_flat(raw: &mut [u8], s: State) -> usize
-    ensures { Laid raw.old 0 (flatBytes s) result raw.new }
+    ensures { Laid raw.old 0 (flat_bytes s) result raw.new }
 {
     if raw.len() < LENGTH {
         return 0;
@@ -115,8 +115,8 @@ pub fn put_flat(raw: &mut [u8], s: State) -> usize
 }
 
 fn put_combiner(raw: &mut [u8], at: usize, s: State) -> usize
-    requires { at + combinerLong ≤ length raw.old }
-    ensures { Laid raw.old at (combinerBytes s) result raw.new }
+    requires { at + combiner_long ≤ length raw.old }
+    ensures { Laid raw.old at (combiner_bytes s) result raw.new }
 {
     let a = rows::put1(raw, at, s.count);
     let b = rows::put1(raw, a, s.len);
@@ -125,8 +125,8 @@ fn put_combiner(raw: &mut [u8], at: usize, s: State) -> usize
 }
 
 fn put_clients(raw: &mut [u8], clients: [Client; limits::CLIENTS]) -> usize
-    requires { elemsAt ≤ length raw.old }
-    ensures { Laid raw.old 0 (pieces clientBytes clients) result raw.new }
+    requires { elems_at ≤ length raw.old }
+    ensures { Laid raw.old 0 (pieces client_bytes clients) result raw.new }
 {
     let mut i: usize = 0;
     let mut p: usize = 0;
@@ -139,8 +139,8 @@ fn put_clients(raw: &mut [u8], clients: [Client; limits::CLIENTS]) -> usize
 }
 
 fn put_client(raw: &mut [u8], at: usize, c: Client) -> usize
-    requires { at + clientLong ≤ length raw.old }
-    ensures { Laid raw.old at (clientBytes c) result raw.new }
+    requires { at + client_long ≤ length raw.old }
+    ensures { Laid raw.old at (client_bytes c) result raw.new }
 {
     let a = rows::put4(raw, at, c.rid);
     let b = rows::put4(raw, a, c.req);
@@ -149,8 +149,8 @@ fn put_client(raw: &mut [u8], at: usize, c: Client) -> usize
 }
 
 fn put_elems(raw: &mut [u8], at: usize, elems: [Elem; limits::CLIENTS]) -> usize
-    requires { at + elemLong * limit.clients ≤ length raw.old }
-    ensures { Laid raw.old at (pieces elemBytes elems) result raw.new }
+    requires { at + elem_long * limit.clients ≤ length raw.old }
+    ensures { Laid raw.old at (pieces elem_bytes elems) result raw.new }
 {
     let mut i: usize = 0;
     let mut p = at;
@@ -163,8 +163,8 @@ fn put_elems(raw: &mut [u8], at: usize, elems: [Elem; limits::CLIENTS]) -> usize
 }
 
 fn put_elem(raw: &mut [u8], at: usize, e: Elem) -> usize
-    requires { at + elemLong ≤ length raw.old }
-    ensures { Laid raw.old at (elemBytes e) result raw.new }
+    requires { at + elem_long ≤ length raw.old }
+    ensures { Laid raw.old at (elem_bytes e) result raw.new }
 {
     let a = rows::put4(raw, at, e.rid);
     rows::put1(raw, a, e.present as u8)

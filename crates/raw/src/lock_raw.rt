@@ -3,8 +3,8 @@ ghost use Rattle.std.specs.Prelude.{◌≡◌, ◌+◌, ◌*◌, ◌≤◌, leng
 ghost use Rattle.rows.specs.Stores.{Laid};
 ghost use Rattle.rows.specs.Walk.{pieces};
 ghost use Rattle.schedule.specs.Limits as limit;
-ghost use Rattle.lock.specs.Image.{cellBytes};
-ghost use Rattle.raw.specs.Raw.{cell_at, cellsFrom, headFrom, lockFrom, headBytes, lockBytes};
+ghost use Rattle.lock.specs.Image.{cell_bytes};
+ghost use Rattle.raw.specs.Raw.{cell_at, cells_from, head_from, lock_from, head_bytes, lock_bytes};
 
 use super::flags;
 use lock::state::{Cell, Head, State};
@@ -15,7 +15,7 @@ pub const HEAD: usize = 10;
 pub const LENGTH: usize = HEAD + 3 * limits::WIDTH;
 
 pub fn lock_from(raw: &[u8]) -> State
-    ensures { result ≡ lockFrom raw.now }
+    ensures { result ≡ lock_from raw.now }
 {
     let head = head_from(raw);
     let cells = cells_from(raw);
@@ -23,7 +23,7 @@ pub fn lock_from(raw: &[u8]) -> State
 }
 
 fn head_from(raw: &[u8]) -> Head
-    ensures { result ≡ headFrom raw.now }
+    ensures { result ≡ head_from raw.now }
 {
     Head {
         t: rows::get4(raw, 0),
@@ -37,7 +37,7 @@ fn head_from(raw: &[u8]) -> Head
 }
 
 fn cells_from(raw: &[u8]) -> [Cell; limits::WIDTH]
-    ensures { result ≡ cellsFrom raw.now }
+    ensures { result ≡ cells_from raw.now }
 {
     let none = Cell {
         count: 0,
@@ -66,7 +66,7 @@ fn cell_at(raw: &[u8], at: usize) -> Cell
 }
 
 pub fn put_lock(raw: &mut [u8], s: State) -> usize
-    ensures { Laid raw.old 0 (lockBytes s) result raw.new }
+    ensures { Laid raw.old 0 (lock_bytes s) result raw.new }
 {
     if raw.len() < LENGTH {
         return 0;
@@ -79,7 +79,7 @@ pub fn put_lock(raw: &mut [u8], s: State) -> usize
 
 fn put_head(raw: &mut [u8], h: Head) -> usize
     requires { 10 ≤ length raw.old }
-    ensures { Laid raw.old 0 (headBytes h) result raw.new }
+    ensures { Laid raw.old 0 (head_bytes h) result raw.new }
 {
     let a = rows::put4(raw, 0, h.t);
     let b = rows::put1(raw, a, h.width);
@@ -89,7 +89,7 @@ fn put_head(raw: &mut [u8], h: Head) -> usize
 
 fn put_cells(raw: &mut [u8], at: usize, cells: [Cell; limits::WIDTH]) -> usize
     requires { at + 3 * limit.width ≤ length raw.old }
-    ensures { Laid raw.old at (pieces cellBytes cells) result raw.new }
+    ensures { Laid raw.old at (pieces cell_bytes cells) result raw.new }
 {
     let mut i: usize = 0;
     let mut p = at;
@@ -103,7 +103,7 @@ fn put_cells(raw: &mut [u8], at: usize, cells: [Cell; limits::WIDTH]) -> usize
 
 fn put_cell(raw: &mut [u8], at: usize, c: Cell) -> usize
     requires { at + 3 ≤ length raw.old }
-    ensures { Laid raw.old at (cellBytes c) result raw.new }
+    ensures { Laid raw.old at (cell_bytes c) result raw.new }
 {
     let a = rows::put1(raw, at, c.count);
     let b = rows::put1(raw, a, c.pending);

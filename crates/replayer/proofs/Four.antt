@@ -8,7 +8,7 @@ use Rattle.machine.specs.Replay.{AllAccepted, after, past}
 use Rattle.machine.specs.Sourced.{Upholds}
 use Rattle.machine.specs.Codes as code
 use Rattle.machine.proofs.Pasts.{ran}
-use Rattle.machine.proofs.Sourceds.{after-good}
+use Rattle.machine.proofs.Sourceds.{after_good}
 use Rattle.schedule.specs.declared.steps.Params.{Params}
 use Rattle.schedule.specs.declared.steps.Params.TheVariants.{Flat, Lock, Counting, Flag}
 use Rattle.schedule.specs.declared.steps.FlatStep.TheVariants.{ClientSend, ClientRecv, CombinerRecv, CombinerSkip, CombinerGoToResponding, CombinerSend, CombinerSendSkip, CombinerGoToCollecting}
@@ -49,31 +49,31 @@ upholds (Lock w t) = (lockProved.refines).upholds
 upholds Counting = (countingProved.refines).upholds
 upholds (Flag n v) = (flagProved.refines).upholds
 
-pub sound-means : (p : Params) (s : StateOf (kind_of p)) → (kind_of p).Whole s → (kind_of p).stepper.sound s ≡ true → Sound (kind_of p) s
-sound-means (Flat n) s w = (flatProved.refines).sound-means s w.0 w.1
-sound-means (Lock n t) s w = (lockProved.refines).sound-means s w
-sound-means Counting s w = (countingProved.refines).sound-means s
-sound-means (Flag n v) s w = (flagProved.refines).sound-means s w
+pub sound_means : (p : Params) (s : StateOf (kind_of p)) → (kind_of p).Whole s → (kind_of p).stepper.sound s ≡ true → Sound (kind_of p) s
+sound_means (Flat n) s w = (flatProved.refines).sound_means s w.0 w.1
+sound_means (Lock n t) s w = (lockProved.refines).sound_means s w
+sound_means Counting s w = (countingProved.refines).sound_means s
+sound_means (Flag n v) s w = (flagProved.refines).sound_means s w
 
-pub means-sound : (p : Params) (s : StateOf (kind_of p)) → Sound (kind_of p) s → (kind_of p).stepper.sound s ≡ true
-means-sound (Flat n) = (flatProved.refines).means-sound
-means-sound (Lock w t) = (lockProved.refines).means-sound
-means-sound Counting = (countingProved.refines).means-sound
-means-sound (Flag n v) = (flagProved.refines).means-sound
+pub means_sound : (p : Params) (s : StateOf (kind_of p)) → Sound (kind_of p) s → (kind_of p).stepper.sound s ≡ true
+means_sound (Flat n) = (flatProved.refines).means_sound
+means_sound (Lock w t) = (lockProved.refines).means_sound
+means_sound Counting = (countingProved.refines).means_sound
+means_sound (Flag n v) = (flagProved.refines).means_sound
 
 -- ---------- fresh machines
 
 pub initial : (p : Params) → (kind_of p).Within → (kind_of p).Initial ((kind_of p).source.abs (kind_of p).fresh)
-initial (Flat n) h = (flatProved.refines).fresh-initialize n h
-initial (Lock w t) h = (lockProved.refines).fresh-initialize w t h.0 h.1
-initial Counting h = (countingProved.refines).fresh-new
-initial (Flag n v) h = (flagProved.refines).fresh-new n v
+initial (Flat n) h = (flatProved.refines).fresh_initialize n h
+initial (Lock w t) h = (lockProved.refines).fresh_initialize w t h.0 h.1
+initial Counting h = (countingProved.refines).fresh_new
+initial (Flag n v) h = (flagProved.refines).fresh_new n v
 
 pub fresh : (p : Params) → (kind_of p).Within → Sound (kind_of p) (kind_of p).fresh
-fresh (Flat n) h = sound-means (Flat n) (flat.freshState n) (refl, refl) ((flatProved.refines).fresh-sound n h)
-fresh (Lock w t) h = sound-means (Lock w t) (lock.freshState w t) refl ((lockProved.refines).fresh-sound w t h.0 h.1)
-fresh Counting h = sound-means Counting counting.freshState tt (countingProved.refines).fresh-sound
-fresh (Flag n v) h = sound-means (Flag n v) (flag.freshState n v) refl ((flagProved.refines).fresh-sound n v h.0 h.1)
+fresh (Flat n) h = sound_means (Flat n) (flat.fresh_state n) (refl, refl) ((flatProved.refines).fresh_sound n h)
+fresh (Lock w t) h = sound_means (Lock w t) (lock.fresh_state w t) refl ((lockProved.refines).fresh_sound w t h.0 h.1)
+fresh Counting h = sound_means Counting counting.fresh_state tt (countingProved.refines).fresh_sound
+fresh (Flag n v) h = sound_means (Flag n v) (flag.fresh_state n v) refl ((flagProved.refines).fresh_sound n v h.0 h.1)
 
 -- ---------- the runs: the laws of a loop, and the codes of steps, 11 to 18
 
@@ -114,40 +114,40 @@ history : (m : Machine) (s : m.State) (ys : List m.Step) → AllAccepted m s ys 
 history m s ys a = ran m s [] s ys start a
 
 -- no step changes how many threads there are
-threads-kept : (s : flagState.State) (ys : List FlagStep) → (after flag.flag s ys).threads ≡ s.threads
-threads-kept s [] = refl
-threads-kept s (Begin k ∷ ys) = threads-kept (flag.next s (Begin k)) ys
-threads-kept s (Move k ∷ ys) = threads-kept (flag.next s (Move k)) ys
-threads-kept s (Read k ∷ ys) = threads-kept (flag.next s (Read k)) ys
+threads_kept : (s : flagState.State) (ys : List FlagStep) → (after flag.flag s ys).threads ≡ s.threads
+threads_kept s [] = refl
+threads_kept s (Begin k ∷ ys) = threads_kept (flag.next s (Begin k)) ys
+threads_kept s (Move k ∷ ys) = threads_kept (flag.next s (Move k)) ys
+threads_kept s (Read k ∷ ys) = threads_kept (flag.next s (Read k)) ys
 
 pub promises : (p : Params) → (kind_of p).Within → (ys : Steps p) → AllAccepted (machine_of (kind_of p)) (kind_of p).fresh ys
     → (kind_of p).Promises (past_of (kind_of p) ys) (after_of (kind_of p) ys)
 promises (Flat n) h ys a =
-    let r = history flat.flat (flat.freshState n) ys a in
-    let c = flatDemands.state-counted n h _ _ r in
+    let r = history flat.flat (flat.fresh_state n) ys a in
+    let c = flatDemands.state_counted n h _ _ r in
     record { answers = flatExact.demanded n h _ _ r; combiner = c.0; clients = c.1; only = flatExact.exactly n h }
 promises (Lock w t) h ys a =
-    let r = history lock.lock (lock.freshState w t) ys a in
-    let c = lockDemands.guards-counted w t h.0 h.1 _ _ r in
+    let r = history lock.lock (lock.fresh_state w t) ys a in
+    let c = lockDemands.guards_counted w t h.0 h.1 _ _ r in
     record {
       guards = lockExact.demanded w t h.0 h.1 _ _ r;
-      cells = lockDemands.cells-counted w t h.0 h.1 _ _ r;
-      readers-counted = c.0;
-      writers-counted = c.1;
-      head = lockDemands.head-counted w t h.0 h.1 _ _ r;
+      cells = lockDemands.cells_counted w t h.0 h.1 _ _ r;
+      readers_counted = c.0;
+      writers_counted = c.1;
+      head = lockDemands.head_counted w t h.0 h.1 _ _ r;
       only = lockExact.exactly w t h.0 h.1;
     }
 promises Counting h ys a =
-    let r = history counting.counting counting.freshState ys a in
-    let c = countingDemands.refs-counted _ _ r in
-    record { references = countingDemands.demanded _ _ r; references-counted = c.0; stored = c.1 }
+    let r = history counting.counting counting.fresh_state ys a in
+    let c = countingDemands.refs_counted _ _ r in
+    record { references = countingDemands.demanded _ _ r; references_counted = c.0; stored = c.1 }
 promises (Flag n v) h ys a =
-    let r = history flag.flag (flag.freshState n v) ys a in
-    let c = flagDemands.flips-owed n v h.0 h.1 _ _ r in
-    let g = after-good flagTo.helping flagTo.Sound (upholds (Flag n v)) (flag.freshState n v) ys (fresh (Flag n v) h) a in
+    let r = history flag.flag (flag.fresh_state n v) ys a in
+    let c = flagDemands.flips_owed n v h.0 h.1 _ _ r in
+    let g = after_good flagTo.helping flagTo.Sound (upholds (Flag n v)) (flag.fresh_state n v) ys (fresh (Flag n v) h) a in
     record {
       flips = flagDemands.demanded n v h.0 h.1 _ _ r;
       owed = c.0;
       value = c.1;
-      alone = λ k l. (flagProved.refines).ends _ g k (rw (threads-kept (flag.freshState n v) ys) l);
+      alone = λ k l. (flagProved.refines).ends _ g k (rw (threads_kept (flag.fresh_state n v) ys) l);
     }

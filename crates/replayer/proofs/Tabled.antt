@@ -3,13 +3,13 @@ use mathlib.Core.Path.{refl}
 use Rattle.rows.specs.Bytes.{bytes_at}
 use Rattle.machine.specs.Replay.{replay}
 use Rattle.schedule.specs.Front.{opened_of}
-use Rattle.schedule.specs.Reading.{measuredAt, placesFrom}
+use Rattle.schedule.specs.Reading.{measured_at, places_from}
 use Rattle.schedule.specs.Schedule.{decode}
-use Rattle.schedule.specs.Language.{stepAt}
-use Rattle.schedule.specs.Widths.{widths, widthsOf}
-use Rattle.replayer.specs.Replay.{replayOf}
+use Rattle.schedule.specs.Language.{step_at}
+use Rattle.schedule.specs.Widths.{widths, widths_of}
+use Rattle.replayer.specs.Replay.{replay_of}
 use Rattle.replayer.specs.Cases.{Tabled}
 
 pub tabled : Tabled
-unfolding replayOf decode opened_of placesFrom measuredAt widths widthsOf stepAt bytes_at replay
+unfolding replay_of decode opened_of places_from measured_at widths widths_of step_at bytes_at replay
 tabled = refl

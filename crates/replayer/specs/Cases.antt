@@ -5,20 +5,20 @@ use Rattle.rows.specs.Bytes.{alike}
 use Rattle.rows.specs.Stores.{over}
 use Rattle.rows.specs.Walk.{every}
 use Rattle.machine.specs.Rest.{Rested}
-use Rattle.replayer.specs.Replay.{replayOf}
+use Rattle.replayer.specs.Replay.{replay_of}
 
 pub record Case : Type 0 where
   pub file : List ℕ
-  pub logRoom : ℕ
-  pub imageRoom : ℕ
+  pub log_room : ℕ
+  pub image_room : ℕ
   pub code : ℕ
   pub place : ℕ
   pub log : List ℕ
   pub image : List ℕ
 
 abbrev pub row : List ℕ → ℕ → ℕ → ℕ → ℕ → List ℕ → List ℕ → Case
-row file logRoom imageRoom code place log image =
-    record { file = file; logRoom = logRoom; imageRoom = imageRoom; code = code; place = place; log = log; image = image }
+row file log_room image_room code place log image =
+    record { file = file; log_room = log_room; image_room = image_room; code = code; place = place; log = log; image = image }
 
 -- a buffer before: so many bytes 170
 abbrev pub before : ℕ → List ℕ
@@ -27,9 +27,9 @@ before room = replicate room 170
 -- the answer is the row's: code, place, both lengths, and both whole buffers
 abbrev pub meets : Case → Bool
 meets c =
-    let a : Rested = replayOf c.file (before c.logRoom) (before c.imageRoom) in
+    let a : Rested = replay_of c.file (before c.log_room) (before c.image_room) in
     eqb a.code c.code && (eqb a.place c.place && (eqb a.logged (length c.log) && (eqb a.imaged (length c.image)
-    && (alike a.log (over c.log (before c.logRoom)) && alike a.image (over c.image (before c.imageRoom))))))
+    && (alike a.log (over c.log (before c.log_room)) && alike a.image (over c.image (before c.image_room))))))
 
 -- no clients: gathered length 0 equals the count 0, so the turn to responding is accepted
 abbrev pub p01a : Case
@@ -53,29 +53,29 @@ p01c =
     (0 ∷ 0 ∷ 0 ∷ 0 ∷ 0 ∷ [])
 
 -- a lock of width 0 is outside the limits
-abbrev pub p02-width-0 : Case
-p02-width-0 =
+abbrev pub p02_width_0 : Case
+p02_width_0 =
     row (1 ∷ 0 ∷ 6 ∷ 2 ∷ 0 ∷ 0 ∷ 0 ∷ 0 ∷ 7 ∷ []) 3 515 5 0
     ([])
     ([])
 
 -- the least width, no steps: the fresh lock with one cell
-abbrev pub p02-width-1 : Case
-p02-width-1 =
+abbrev pub p02_width_1 : Case
+p02_width_1 =
     row (1 ∷ 0 ∷ 6 ∷ 2 ∷ 1 ∷ 0 ∷ 0 ∷ 0 ∷ 7 ∷ []) 3 515 0 0
     ([])
     (0 ∷ 1 ∷ 0 ∷ 0 ∷ 0 ∷ 7 ∷ 0 ∷ 0 ∷ 0 ∷ 0 ∷ 0 ∷ 0 ∷ [])
 
 -- the greatest width, no steps: the fresh lock with sixteen cells
-abbrev pub p02-width-16 : Case
-p02-width-16 =
+abbrev pub p02_width_16 : Case
+p02_width_16 =
     row (1 ∷ 0 ∷ 6 ∷ 2 ∷ 16 ∷ 0 ∷ 0 ∷ 0 ∷ 7 ∷ []) 3 515 0 0
     ([])
     (0 ∷ 1 ∷ 0 ∷ 0 ∷ 0 ∷ 7 ∷ 0 ∷ 0 ∷ 0 ∷ 0 ∷ 0 ∷ 0 ∷ 0 ∷ 0 ∷ 0 ∷ 0 ∷ 0 ∷ 0 ∷ 0 ∷ 0 ∷ 0 ∷ 0 ∷ 0 ∷ 0 ∷ 0 ∷ 0 ∷ 0 ∷ 0 ∷ 0 ∷ 0 ∷ 0 ∷ 0 ∷ 0 ∷ 0 ∷ 0 ∷ 0 ∷ 0 ∷ 0 ∷ 0 ∷ 0 ∷ 0 ∷ 0 ∷ 0 ∷ 0 ∷ 0 ∷ 0 ∷ 0 ∷ 0 ∷ 0 ∷ 0 ∷ 0 ∷ 0 ∷ 0 ∷ 0 ∷ 0 ∷ 0 ∷ 0 ∷ [])
 
 -- a lock of width 17 is outside the limits
-abbrev pub p02-width-17 : Case
-p02-width-17 =
+abbrev pub p02_width_17 : Case
+p02_width_17 =
     row (1 ∷ 0 ∷ 6 ∷ 2 ∷ 17 ∷ 0 ∷ 0 ∷ 0 ∷ 7 ∷ []) 3 515 5 0
     ([])
     ([])
@@ -179,7 +179,7 @@ p12b =
     p12a.image
 
 abbrev pub cases : List Case
-cases = p01a ∷ p01b ∷ p01c ∷ p02-width-0 ∷ p02-width-1 ∷ p02-width-16 ∷ p02-width-17 ∷ p03 ∷ p04 ∷ p05 ∷ p06 ∷ p07a ∷ p07b ∷ p08a ∷ p08b ∷ p09 ∷ p10a ∷ p10b ∷ p11 ∷ p12a ∷ p12b ∷ []
+cases = p01a ∷ p01b ∷ p01c ∷ p02_width_0 ∷ p02_width_1 ∷ p02_width_16 ∷ p02_width_17 ∷ p03 ∷ p04 ∷ p05 ∷ p06 ∷ p07a ∷ p07b ∷ p08a ∷ p08b ∷ p09 ∷ p10a ∷ p10b ∷ p11 ∷ p12a ∷ p12b ∷ []
 
 abbrev pub Tabled : Type 0
 Tabled = every (λ i c. meets c) 0 cases ≡ true

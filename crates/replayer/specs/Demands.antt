@@ -1,5 +1,5 @@
 -- THE THREE DEMANDS, of any replayer R, any bytes f and any two buffers. The user's sentences stand above the clauses that give them ("document 01" is the
--- scope). proofs/Demands.antt proves all three of `replayOf`, which `replay` promises; proofs/Settles.antt proves that no other R meets the first two. The
+-- scope). proofs/Demands.antt proves all three of `replay_of`, which `replay` promises; proofs/Settles.antt proves that no other R meets the first two. The
 -- words used: `HasFault`, the scope's table of codes 1 to 7 (schedule specs/Given); `FileOf`, the file that a schedule has (schedule specs/Canonical); `Kind`,
 -- what a machine brings (specs/Kinds); `Rested`, what a call answers and leaves (machine specs/Rest); `single`, one step on any state (machine specs/Single);
 -- `Exact` and `Upholds`, going by the source (machine specs/Sourced). No clause speaks of how a file is read. Assumes nothing.
@@ -8,14 +8,14 @@ use Rattle.std.proofs.Math.Option.{Option, none, some}
 use Rattle.rows.specs.Bytes.{Bytes}
 use Rattle.rows.specs.Stores.{over}
 use Rattle.rows.specs.Walk.{pieces}
-use Rattle.machine.specs.History.{History, logOf}
+use Rattle.machine.specs.History.{History, log_of}
 use Rattle.machine.specs.Replay.{Replayed, after, past}
 use Rattle.machine.specs.Rest.{Rested, untouched, finished}
-use Rattle.machine.specs.Single.{Single, single, handedBack}
+use Rattle.machine.specs.Single.{Single, single, handed_back}
 use Rattle.machine.specs.Sourced.{Reason, Enabled, AllEnabled, Exact, Upholds}
 use Rattle.machine.specs.Codes as code
 use Rattle.schedule.specs.Limits as limit
-use Rattle.schedule.specs.Front.{faultCode, faultPlace}
+use Rattle.schedule.specs.Front.{fault_code, fault_place}
 use Rattle.schedule.specs.Given.{HasFault}
 use Rattle.schedule.specs.Canonical.{FileOf, Sorted}
 use Rattle.schedule.specs.declared.front.Fault.{Fault}
@@ -61,16 +61,16 @@ pub record SingleExact (k : Kind) : Type 0 where
       → singly k s (some x) log ≡ record { code = 0; state = (machine_of k).next s x; wrote = (machine_of k).logs s x }
   pub reason : (s : StateOf k) (x : StepOf k) (log : List ℕ) → k.stepper.room ≤ length log → Sound k s → (Enabled k.source s x → ⊥)
       → Reason k.source (k.source.abs s) (k.source.label x) (singly k s (some x) log).code
-  pub foreign : (s : StateOf k) (log : List ℕ) → singly k s none log ≡ handedBack code.malformed s
-  pub short : (s : StateOf k) (x : StepOf k) (log : List ℕ) → length log < k.stepper.room → singly k s (some x) log ≡ handedBack code.room s
+  pub foreign : (s : StateOf k) (log : List ℕ) → singly k s none log ≡ handed_back code.malformed s
+  pub short : (s : StateOf k) (x : StepOf k) (log : List ℕ) → length log < k.stepper.room → singly k s (some x) log ≡ handed_back code.room s
 
 pub record OfMachine (k : Kind) : Type 0 where
   -- 1. "A refused step leaves the state that stood before it and the log of the steps before it": a single step, of this kind or another
-  pub refusal-keeps : (s : StateOf k) (x : Option (StepOf k)) (log : List ℕ)
+  pub refusal_keeps : (s : StateOf k) (x : Option (StepOf k)) (log : List ℕ)
       → let a = singly k s x log in (a.code ≡ 0 → ⊥) → (a.state ≡ s) × (a.wrote ≡ [])
   -- "A made_up machine state is tested and, if not sound, refused": 10. Sound is: the source's invariants, the limits, unused entries zero
   pub made_up : (s : StateOf k) (x : StepOf k) (log : List ℕ) → k.stepper.room ≤ length log → k.Whole s → (Sound k s → ⊥)
-      → singly k s (some x) log ≡ handedBack code.unsound s
+      → singly k s (some x) log ≡ handed_back code.unsound s
   -- 2. "A step is accepted exactly when its transition in the source is enabled and the counter limit of document 01 isn't reached, and it then does what
   -- the source says": of every sound state; single steps likewise
   pub step : Upholds k.source (Sound k)
@@ -88,26 +88,26 @@ pub record Wrote (count : ℕ) (before after : List ℕ) : Type 0 where
   pub bytes : List ℕ
   pub many : length bytes ≡ count
   pub fits : length bytes ≤ length before
-  pub over-front : after ≡ over bytes before
+  pub over_front : after ≡ over bytes before
 
 -- "Any bytes given as a schedule get one answer, and the caller never has to have checked anything": R is a function, and what it is given is sorted
 pub record Demand1 (R : Replayer) (f log image : List ℕ) : Type 0 where
   -- exactly one line of the table of codes 1 to 7 applies to f, or f is the file of exactly one schedule
   pub sorted : Sorted f
   -- 1 to 7, with the place of its line; then 8 where a buffer is under its size; else 0, or a step's, 11 to 18
-  pub fault : (x : Fault) → HasFault f x → R f log image ≡ untouched (faultCode x) (faultPlace x) log image
+  pub fault : (x : Fault) → HasFault f x → R f log image ≡ untouched (fault_code x) (fault_place x) log image
   pub short : (p : Params) (xs : Steps p) → Says f p xs → (Room (length xs) log image → ⊥) → R f log image ≡ untouched code.room 0 log image
   pub roomy : (p : Params) (xs : Steps p) → Says f p xs → Room (length xs) log image → let c = (R f log image).code in (c ≡ 0) ⊎ OfAStep c
   -- and each only then
-  pub only-fault : (x : Fault) → (R f log image).code ≡ faultCode x → (R f log image).place ≡ faultPlace x → HasFault f x
-  pub only-short : (R f log image).code ≡ code.room → (p : Params) × (xs : Steps p) × Says f p xs × (Room (length xs) log image → ⊥)
-  pub only-roomy : let c = (R f log image).code in (c ≡ 0) ⊎ OfAStep c → (p : Params) × (xs : Steps p) × Says f p xs × Room (length xs) log image
+  pub only_fault : (x : Fault) → (R f log image).code ≡ fault_code x → (R f log image).place ≡ fault_place x → HasFault f x
+  pub only_short : (R f log image).code ≡ code.room → (p : Params) × (xs : Steps p) × Says f p xs × (Room (length xs) log image → ⊥)
+  pub only_roomy : let c = (R f log image).code in (c ≡ 0) ⊎ OfAStep c → (p : Params) × (xs : Steps p) × Says f p xs × Room (length xs) log image
   -- "A refused file leaves the log and state buffers untouched." A file is refused by 1 to 8 (9 and 10 are no file's)
-  pub refused-file : let a = R f log image in 1 ≤ a.code → a.code ≤ code.unsound → a ≡ untouched a.code a.place log image
+  pub refused_file : let a = R f log image in 1 ≤ a.code → a.code ≤ code.unsound → a ≡ untouched a.code a.place log image
   pub known : let c = (R f log image).code in (c ≡ 0) ⊎ ((1 ≤ c) × (c ≤ code.room)) ⊎ OfAStep c
   -- nothing is written but entries and image, at the front of their buffers
-  pub log-kept : let a = R f log image in Wrote a.logged log a.log
-  pub image-kept : let a = R f log image in Wrote a.imaged image a.image
+  pub log_kept : let a = R f log image in Wrote a.logged log a.log
+  pub image_kept : let a = R f log image in Wrote a.imaged image a.image
 
 -- ---------- 2
 
@@ -133,11 +133,11 @@ pub record Demand3 (R : Replayer) (f log image : List ℕ) : Type 0 where
       → (n : ℕ) → n ≤ (R f log image).place → (kind_of p).Promises (past_of (kind_of p) (take n xs)) (after_of (kind_of p) (take n xs))
   -- the log is that history's entries, no more and no less
   pub logged : (p : Params) (xs : Steps p) → Says f p xs
-      → let a = R f log image in let es = pieces (kind_of p).runner.bytes (logOf (past_of (kind_of p) (take a.place xs))) in
+      → let a = R f log image in let es = pieces (kind_of p).runner.bytes (log_of (past_of (kind_of p) (take a.place xs))) in
       (a.logged ≡ length es) × (a.log ≡ over es log)
   -- what a longer part of it logged begins with what a shorter one did
   pub grows : (p : Params) (xs : Steps p) → Says f p xs → (n m : ℕ) → n ≤ m → m ≤ (R f log image).place
-      → (more : List (EntryOf (kind_of p))) × (logOf (past_of (kind_of p) (take m xs)) ≡ logOf (past_of (kind_of p) (take n xs)) ++ more)
+      → (more : List (EntryOf (kind_of p))) × (log_of (past_of (kind_of p) (take m xs)) ≡ log_of (past_of (kind_of p) (take n xs)) ++ more)
   -- the image is that of the state that it led to
   pub shown : (p : Params) (xs : Steps p) → Says f p xs → Room (length xs) log image
       → let a = R f log image in let i = (kind_of p).runner.image (after_of (kind_of p) (take a.place xs)) in

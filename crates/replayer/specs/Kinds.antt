@@ -8,7 +8,7 @@ use Rattle.machine.specs.History.{History}
 use Rattle.machine.specs.Single.{Stepper}
 use Rattle.machine.specs.Sourced.{Sourced}
 use Rattle.schedule.specs.Limits as limit
-use Rattle.schedule.specs.Schedule.{Schedule, ofFlat, ofLock, ofCounting, ofFlag}
+use Rattle.schedule.specs.Schedule.{Schedule, of_flat, of_lock, of_counting, of_flag}
 use Rattle.schedule.specs.Running.{Runner}
 use Rattle.schedule.specs.declared.steps.Params.{Params}
 use Rattle.schedule.specs.declared.steps.Params.TheVariants.{Flat, Lock, Counting, Flag}
@@ -89,10 +89,10 @@ pub record LockPromises (w t : ℕ) (h : History lock.lock) (s : lockState.State
   -- "no writer guard stands beside a reader guard, and each reader guard carries the record of the latest writer release, or the initial one"
   pub guards : lockDemand.Demand w t h
   -- the scope: "a cell equals its accepted shared_starts less its accepted shared_releases"
-  pub cells : (r : ℕ) → (lock.cell s r).count + lockDemand.sharedReleases h r ≡ lockDemand.sharedStarts h r
+  pub cells : (r : ℕ) → (lock.cell s r).count + lockDemand.shared_releases h r ≡ lockDemand.shared_starts h r
   -- the guards that stand, counted: "those at r that carry t are the logged shared_finishes of r and t less the accepted shared_releases"
-  pub readers-counted : (r u : ℕ) → lockDemand.handedOut h r u ≡ lockDemand.givenBack h r u + cond (eqb u (lockDemand.inForce t h)) (lock.cell s r).guards 0
-  pub writers-counted : lockDemand.taken h ≡ lockDemand.returned h + bit s.head.guard
+  pub readers_counted : (r u : ℕ) → lockDemand.handed_out h r u ≡ lockDemand.given_back h r u + cond (eqb u (lockDemand.in_force t h)) (lock.cell s r).guards 0
+  pub writers_counted : lockDemand.taken h ≡ lockDemand.returned h + bit s.head.guard
   -- the head, counted: width, record in store, cursor
   pub head : lockDemand.Headed w t h s
   -- and what `guards` says of each step says all: the accepted histories of this lock are those of which it holds
@@ -101,16 +101,16 @@ pub record LockPromises (w t : ℕ) (h : History lock.lock) (s : lockState.State
 pub record CountingPromises (h : History counting.counting) (s : countingState.State) : Type 0 where
   -- the counting machine's share: each reference that is held carries the stored value
   pub references : countingDemand.Demand h
-  pub references-counted : (u : ℕ) → countingDemand.granted h u ≡ countingDemand.deleted h u + cond (eqb u s.t) s.refs 0
+  pub references_counted : (u : ℕ) → countingDemand.granted h u ≡ countingDemand.deleted h u + cond (eqb u s.t) s.refs 0
   pub stored : countingDemand.stored h ≡ cond s.present (some s.t) none
 
 pub record FlagPromises (n : ℕ) (v : Bool) (h : History flag.flag) (s : flagState.State) : Type 0 where
   -- "each finished flip, also a helped or cancelled one, is logged once, by a step after its beginning and not after its end, an unfinished one at most
   -- once; each read shows the initial value turned once for every flip logged before it"
-  pub flips : flagDemand.Demand (flag.freshState n v) v h
+  pub flips : flagDemand.Demand (flag.fresh_state n v) v h
   -- what each thread still owes, and the value
   pub owed : (k : ℕ) → flagDemand.begins h k ≡ flagDemand.flips h k + flagDemand.owed (flag.place s k) s.pending
-  pub value : s.value ≡ flagDemand.turned (flagDemand.allFlips h) v
+  pub value : s.value ≡ flagDemand.turned (flagDemand.all_flips h) v
   -- "A flip whose thread moves alone ends within five moves."
   pub alone : (k : ℕ) → k < n → flagTo.EndsWithin k 5 s
 
@@ -120,37 +120,37 @@ abbrev pub kind_of : Params → Kind
 kind_of (Flat n) =
     record {
       runner = flatRun.runner;
-      source = flatTo.flatCombine;
+      source = flatTo.flat_combine;
       stepper = flatSingle.stepper;
       Whole = λ s. (length s.clients ≡ limit.clients) × (length s.elems ≡ limit.clients);
       Within = n ≤ limit.clients;
-      fresh = flat.freshState n;
+      fresh = flat.fresh_state n;
       Initial = λ a. a ≡ flatSource.initialize n;
-      schedule = ofFlat n;
+      schedule = of_flat n;
       Promises = FlatPromises n;
     }
 kind_of (Lock w t) =
     record {
       runner = lockRun.runner;
-      source = lockTo.distRwLock;
+      source = lockTo.dist_rw_lock;
       stepper = lockSingle.stepper;
       Whole = λ s. length s.cells ≡ limit.width;
       Within = (1 ≤ w) × (w ≤ limit.width);
-      fresh = lock.freshState w t;
+      fresh = lock.fresh_state w t;
       Initial = λ a. lockSource.Initialize w t a;
-      schedule = ofLock w t;
+      schedule = of_lock w t;
       Promises = LockPromises w t;
     }
 kind_of Counting =
     record {
       runner = countingRun.runner;
-      source = countingTo.countingPermissions;
+      source = countingTo.counting_permissions;
       stepper = countingSingle.stepper;
       Whole = λ s. Unit {0};
       Within = Unit {0};
-      fresh = counting.freshState;
+      fresh = counting.fresh_state;
       Initial = λ a. a ≡ countingSource.new;
-      schedule = ofCounting;
+      schedule = of_counting;
       Promises = CountingPromises;
     }
 kind_of (Flag n v) =
@@ -160,9 +160,9 @@ kind_of (Flag n v) =
       stepper = flagSingle.stepper;
       Whole = λ s. length s.places ≡ limit.threads;
       Within = (1 ≤ n) × (n ≤ limit.threads);
-      fresh = flag.freshState n v;
+      fresh = flag.fresh_state n v;
       Initial = λ a. a ≡ flagSource.new n v;
-      schedule = ofFlag n v;
+      schedule = of_flag n v;
       Promises = FlagPromises n v;
     }
 

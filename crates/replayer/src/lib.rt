@@ -1,6 +1,6 @@
 // The replayer: any bytes, any two buffers, one answer.
 ghost use Rattle.schedule.specs.Answers.{Leaves};
-ghost use Rattle.replayer.specs.Replay.{replayOf, openedAs, input_of};
+ghost use Rattle.replayer.specs.Replay.{replay_of, opened_as, input_of};
 
 use machine::codes;
 use schedule::answer::Answer;
@@ -13,7 +13,7 @@ pub const LARGEST: usize = limits::BODY + 3;
 
 // The answer to a file, with the log of its accepted steps and the image of the state that they led to.
 pub fn replay(file: &[u8], log: &mut [u8], image: &mut [u8]) -> Answer
-    ensures { Leaves (replayOf file.now log.old image.old) result log.new image.new }
+    ensures { Leaves (replay_of file.now log.old image.old) result log.new image.new }
 {
     match front::front(file) {
         Opened::Faulty(f) => answer::of_fault(f),
@@ -29,7 +29,7 @@ fn behind_front(
     log: &mut [u8],
     image: &mut [u8],
 ) -> Answer
-    ensures { Leaves (openedAs file.now params from log.old image.old) result log.new image.new }
+    ensures { Leaves (opened_as file.now params from log.old image.old) result log.new image.new }
 {
     match params {
         Params::Flat { clients } => flat_run::rest(file, from, clients, log, image),

@@ -22,10 +22,10 @@ pub both_true : (a b : Bool) → (a && b) ≡ true → (a ≡ true) × (b ≡ tr
 both_true true b e = (refl, e)
 both_true false b e = clash (cc)
 
-pub true-both : {a b : Bool} → a ≡ true → b ≡ true → (a && b) ≡ true
-true-both p q = rw (p, q)
+pub true_both : {a b : Bool} → a ≡ true → b ≡ true → (a && b) ≡ true
+true_both p q = rw (p, q)
 
 -- for omega: a test that does not compute counts as the unknown `bit b`
-pub tick-bit : (b : Bool) (n : ℕ) → tick b n ≡ n + bit b
-tick-bit true n = omega arith
-tick-bit false n = omega arith
+pub tick_bit : (b : Bool) (n : ℕ) → tick b n ≡ n + bit b
+tick_bit true n = omega arith
+tick_bit false n = omega arith

@@ -14,11 +14,11 @@ use lib.Pow.{shl_exact, shr-shr}
 use lib.Seq.{drop-cons}
 use mir.Val.{bool_byte}
 use Rattle.rows.specs.Mask.{mask}
-use Rattle.rows.proofs.Rows.{drop-end}
+use Rattle.rows.proofs.Rows.{drop_end}
 
-pub bit-lt : (b : Bool) → bool_byte b < 2
-bit-lt true = lit< tt
-bit-lt false = lit< tt
+pub bit_lt : (b : Bool) → bool_byte b < 2
+bit_lt true = lit< tt
+bit_lt false = lit< tt
 
 -- the test of a bit is the flag
 pub bit_test : (b : Bool) → eqb (bool_byte b) 1 ≡ b
@@ -28,35 +28,35 @@ bit_test false = refl
 module _ {A : Type 0} (f : A → Bool) where
   pub mask_lt : (xs : List A) → mask f xs < 2 ^ length xs
   mask_lt [] = lit< tt
-  mask_lt (x ∷ xs) = rw pow-suc (digits_lt (mask_lt xs) (bit-lt (f x)))
+  mask_lt (x ∷ xs) = rw pow-suc (digits_lt (mask_lt xs) (bit_lt (f x)))
 
   -- an entry more, shifted in from below, in a number of w bits
-  pub mask-shl : (w : ℕ) (xs : List A) (x : A) → length xs + 1 ≤ w → bit_or ((mask f xs * 2 ^ 1) % 2 ^ w) (bool_byte (f x)) ≡ mask f (x ∷ xs)
-  mask-shl w xs x h = rw (shl_exact (length xs) 1 w (mask_lt xs) h) (or_shifted (mask f xs) 1 (bool_byte (f x)) (bit-lt (f x)))
+  pub mask_shl : (w : ℕ) (xs : List A) (x : A) → length xs + 1 ≤ w → bit_or ((mask f xs * 2 ^ 1) % 2 ^ w) (bool_byte (f x)) ≡ mask f (x ∷ xs)
+  mask_shl w xs x h = rw (shl_exact (length xs) 1 w (mask_lt xs) h) (or_shifted (mask f xs) 1 (bool_byte (f x)) (bit_lt (f x)))
 
   -- a turn of the loop that goes down a row from its end
-  pub mask-down : (w : ℕ) (xs : List A) (d : A) (i m : ℕ) → length xs ≤ w → 0 < i → i ≤ length xs → m ≡ mask f (drop i xs)
+  pub mask_down : (w : ℕ) (xs : List A) (d : A) (i m : ℕ) → length xs ≤ w → 0 < i → i ≤ length xs → m ≡ mask f (drop i xs)
       → bit_or ((m * 2 ^ 1) % 2 ^ w) (bool_byte (f (get_or xs (i - 1) d))) ≡ mask f (drop (i - 1) xs)
-  mask-down w xs d zero m n p h e = absurd (not-suc-le-zero p)
-  mask-down w xs d (suc j) m n p h e =
+  mask_down w xs d zero m n p h e = absurd (not-suc-le-zero p)
+  mask_down w xs d (suc j) m n p h e =
       let back : suc j - 1 ≡ j = omega arith in
       let room : length (drop (suc j) xs) + 1 ≤ w = simp length-drop (omega arith) in
-      rw (e, back, drop-cons xs j d h) (mask-shl w (drop (suc j) xs) (get_or xs j d) room)
+      rw (e, back, drop-cons xs j d h) (mask_shl w (drop (suc j) xs) (get_or xs j d) room)
 
   -- its start, with no entry in the mask, and its end, with all of them
-  pub mask-none : (xs : List A) (n : ℕ) → length xs ≤ n → 0 ≡ mask f (drop n xs)
-  mask-none xs n h = rw (drop-end xs n h)
+  pub mask_none : (xs : List A) (n : ℕ) → length xs ≤ n → 0 ≡ mask f (drop n xs)
+  mask_none xs n h = rw (drop_end xs n h)
 
-  pub mask-all : (xs : List A) (i m : ℕ) → i ≤ 0 → m ≡ mask f (drop i xs) → m ≡ mask f xs
-  mask-all xs i m h e = let z : i ≡ 0 = omega arith in rw z at e
+  pub mask_all : (xs : List A) (i m : ℕ) → i ≤ 0 → m ≡ mask f (drop i xs) → m ≡ mask f xs
+  mask_all xs i m h e = let z : i ≡ 0 = omega arith in rw z at e
 
   -- the bit at a place
   pub mask_at : (xs : List A) (d : A) → f d ≡ false → (i : ℕ) → mask f xs / 2 ^ i % 2 ≡ bool_byte (f (get_or xs i d))
   mask_at [] d z i = rw (zero-div, z)
-  mask_at (x ∷ xs) d z zero = rw div-one (digits_mod (mask f xs) (bit-lt (f x)))
+  mask_at (x ∷ xs) d z zero = rw div-one (digits_mod (mask f xs) (bit_lt (f x)))
   mask_at (x ∷ xs) d z (suc i) =
-      rw (← one-add i, ← shr-shr (mask f xs * 2 + bool_byte (f x)) 1 i, digits_div (mask f xs) (bit-lt (f x))) (mask_at xs d z i)
+      rw (← one-add i, ← shr-shr (mask f xs * 2 + bool_byte (f x)) 1 i, digits_div (mask f xs) (bit_lt (f x))) (mask_at xs d z i)
 
   -- its test as code makes it, `(mask >> i) & 1 == 1`: entry i passes
-  pub mask-test : (xs : List A) (d : A) → f d ≡ false → (i : ℕ) → eqb (bit_and (mask f xs / 2 ^ i) 1) 1 ≡ f (get_or xs i d)
-  mask-test xs d z i = rw (and_mask (mask f xs / 2 ^ i) 1, mask_at xs d z i) (bit_test (f (get_or xs i d)))
+  pub mask_test : (xs : List A) (d : A) → f d ≡ false → (i : ℕ) → eqb (bit_and (mask f xs / 2 ^ i) 1) 1 ≡ f (get_or xs i d)
+  mask_test xs d z i = rw (and_mask (mask f xs / 2 ^ i) 1, mask_at xs d z i) (bit_test (f (get_or xs i d)))

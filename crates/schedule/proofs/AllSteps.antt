@@ -5,15 +5,15 @@ use Prim.Native.Nat.{ℕ, ◌+◌, ◌*◌, ◌≤◌}
 use native.Mathlib.Omega.{arith}
 use lib.ListN.{length, drop, length-append, length-drop, length-map}
 use Rattle.rows.specs.Bytes.{Bytes}
-use Rattle.rows.proofs.Rows.{drop-end}
+use Rattle.rows.proofs.Rows.{drop_end}
 use Rattle.rows.proofs.Cases.{clash}
-use Rattle.schedule.specs.Language.{Language, stepAt, stepLength, stepBytes}
-use Rattle.schedule.specs.Reading.{Placed, broken, surplus, placed, placesFrom}
-use Rattle.schedule.specs.Schedule.{Schedule, good, withSteps, stepsBytes, StepsFit}
+use Rattle.schedule.specs.Language.{Language, step_at, step_length, step_bytes}
+use Rattle.schedule.specs.Reading.{Placed, broken, surplus, placed, places_from}
+use Rattle.schedule.specs.Schedule.{Schedule, good, with_steps, steps_bytes, StepsFit}
 use Rattle.schedule.specs.Given.{Whole#, no_more, more}
-use Rattle.schedule.proofs.PlacesSay.{places_of, length-placesOf, PlacesSay, places-say, whole-placed}
+use Rattle.schedule.proofs.PlacesSay.{places_of, length_places_of, PlacesSay, places_say, whole_placed}
 use Rattle.schedule.proofs.Languages.{Lawful, sized}
-use Rattle.schedule.proofs.OneStep.{length-stepBytes, step-next, step-read, step-stands, step_fits, step-again}
+use Rattle.schedule.proofs.OneStep.{length_step_bytes, step_next, step_read, step_stands, step_fits, step_again}
 
 -- a file ends where nothing is left of it
 nothing_left : (f : List ℕ) (at : ℕ) → drop at f ≡ [] → length f ≤ at
@@ -22,7 +22,7 @@ nothing_left f at e = omega (arith, length-drop at f, ap length e)
 module _ {S : Type 0} (l : Language S) (f : List ℕ) where
   -- the steps that stand at the places of whole ones
   abbrev pub steps_of : {at k to : ℕ} → Whole# l.kind f at k to → List S
-  steps_of w = map (stepAt l f) (places_of l.kind f w)
+  steps_of w = map (step_at l f) (places_of l.kind f w)
 
   -- steps whose bytes are all that is left of the file stand there
   record Written (at : ℕ) (xs : List S) : Type 0 where
@@ -37,65 +37,65 @@ module _ {S : Type 0} (l : Language S) (f : List ℕ) where
     pub made : s ≡ make steps
     pub few : length steps ≤ n
     pub fit : StepsFit l steps
-    pub again : stepsBytes l steps ≡ drop at f
+    pub again : steps_bytes l steps ≡ drop at f
 
 module _ {S : Type 0} (l : Language S) (law : Lawful l) where
   -- steps take at most 11 bytes each
-  pub steps-short : (xs : List S) → StepsFit l xs → length (stepsBytes l xs) ≤ length xs * 11
-  steps-short [] fit = omega arith
-  steps-short (x ∷ xs) fit =
+  pub steps_short : (xs : List S) → StepsFit l xs → length (steps_bytes l xs) ≤ length xs * 11
+  steps_short [] fit = omega arith
+  steps_short (x ∷ xs) fit =
       let size = sized l law x in
-      omega (arith, length-append (stepBytes l x) (stepsBytes l xs), length-stepBytes l law x fit.0, size.1, steps-short xs fit.1)
+      omega (arith, length-append (step_bytes l x) (steps_bytes l xs), length_step_bytes l law x fit.0, size.1, steps_short xs fit.1)
 
   module _ (f : List ℕ) where
     -- ---- steps that were written are read
 
-    written : (xs : List S) (at : ℕ) → StepsFit l xs → drop at f ≡ stepsBytes l xs → Written l f at xs
+    written : (xs : List S) (at : ℕ) → StepsFit l xs → drop at f ≡ steps_bytes l xs → Written l f at xs
     written [] at fit e = record { to = at; whole = no_more; over = nothing_left f at e; same = refl }
     written (x ∷ xs) at fit e =
-        let rest = stepsBytes l xs in
-        let g = written xs (at + 1 + stepLength l x) fit.1 (step-next l law f at x rest fit.0 e) in
+        let rest = steps_bytes l xs in
+        let g = written xs (at + 1 + step_length l x) fit.1 (step_next l law f at x rest fit.0 e) in
         record {
           to = g.to;
-          whole = more (step-stands l law f at x rest fit.0 e) g.whole;
+          whole = more (step_stands l law f at x rest fit.0 e) g.whole;
           over = g.over;
-          same = rw (step-read l law f at x rest fit.0 e, g.same);
+          same = rw (step_read l law f at x rest fit.0 e, g.same);
         }
 
-    pub steps-read : (make : List S → Schedule) (xs : List S) (n at k : ℕ) → length xs ≤ n → StepsFit l xs → drop at f ≡ stepsBytes l xs
-        → withSteps l f make (placesFrom l.kind n f at k) ≡ good (make xs)
-    steps-read make xs n at k few fit e =
+    pub steps_read : (make : List S → Schedule) (xs : List S) (n at k : ℕ) → length xs ≤ n → StepsFit l xs → drop at f ≡ steps_bytes l xs
+        → with_steps l f make (places_from l.kind n f at k) ≡ good (make xs)
+    steps_read make xs n at k few fit e =
         let g = written xs at fit e in
-        rw (whole-placed l.kind f n k g.whole g.over few, g.same)
+        rw (whole_placed l.kind f n k g.whole g.over few, g.same)
 
     -- ---- steps that were read are written
 
     module _ (bytes : Bytes f) where
-      steps-fit : {at k to : ℕ} (w : Whole# l.kind f at k to) → StepsFit l (steps_of l f w)
-      steps-fit no_more = tt
-      steps-fit (more {at} {next} s w) = (step_fits l law f at next s bytes, steps-fit w)
+      steps_fit : {at k to : ℕ} (w : Whole# l.kind f at k to) → StepsFit l (steps_of l f w)
+      steps_fit no_more = tt
+      steps_fit (more {at} {next} s w) = (step_fits l law f at next s bytes, steps_fit w)
 
-      steps-again : {at k to : ℕ} (w : Whole# l.kind f at k to) → stepsBytes l (steps_of l f w) ++ drop to f ≡ drop at f
-      steps-again no_more = refl
-      steps-again {to = to} (more {at} {next} s w) =
-          append_assoc (stepBytes l (stepAt l f at)) (stepsBytes l (steps_of l f w)) (drop to f)
-          ∙ rw (steps-again w) (step-again l law f at next s bytes)
+      steps_again : {at k to : ℕ} (w : Whole# l.kind f at k to) → steps_bytes l (steps_of l f w) ++ drop to f ≡ drop at f
+      steps_again no_more = refl
+      steps_again {to = to} (more {at} {next} s w) =
+          append_assoc (step_bytes l (step_at l f at)) (steps_bytes l (steps_of l f w)) (drop to f)
+          ∙ rw (steps_again w) (step_again l law f at next s bytes)
 
-      told-by : (make : List S → Schedule) (s : Schedule) (n at k : ℕ) (p : Placed) → PlacesSay l.kind f n at k p
-          → withSteps l f make p ≡ good s → Told l f make s n at
-      told-by make s n at k (broken i) b e = clash (cc)
-      told-by make s n at k surplus b e = clash (cc)
-      told-by make s n at k (placed ps) b e =
-          let made : s ≡ make (map (stepAt l f) ps) = cc in
+      told_by : (make : List S → Schedule) (s : Schedule) (n at k : ℕ) (p : Placed) → PlacesSay l.kind f n at k p
+          → with_steps l f make p ≡ good s → Told l f make s n at
+      told_by make s n at k (broken i) b e = clash (cc)
+      told_by make s n at k surplus b e = clash (cc)
+      told_by make s n at k (placed ps) b e =
+          let made : s ≡ make (map (step_at l f) ps) = cc in
           let ps' = places_of l.kind f b.whole in
           record {
             steps = steps_of l f b.whole;
             made = rw b.places at made;
-            few = omega (arith, length-map ps' (stepAt l f), length-placesOf l.kind f b.whole, b.few);
-            fit = steps-fit b.whole;
-            again = rw (drop-end f b.to b.over, append-nil) at (steps-again b.whole);
+            few = omega (arith, length-map ps' (step_at l f), length_places_of l.kind f b.whole, b.few);
+            fit = steps_fit b.whole;
+            again = rw (drop_end f b.to b.over, append-nil) at (steps_again b.whole);
           }
 
-      pub told : (make : List S → Schedule) (s : Schedule) (n at k : ℕ) → withSteps l f make (placesFrom l.kind n f at k) ≡ good s
+      pub told : (make : List S → Schedule) (s : Schedule) (n at k : ℕ) → with_steps l f make (places_from l.kind n f at k) ≡ good s
           → Told l f make s n at
-      told make s n at k e = told-by make s n at k (placesFrom l.kind n f at k) (places-say l.kind f n at k) e
+      told make s n at k e = told_by make s n at k (places_from l.kind n f at k) (places_say l.kind f n at k) e

@@ -7,8 +7,8 @@ use native.Mathlib.Omega.{arith}
 use borrow.Author.Tests.{lt-ltb, le-ltb}
 use lib.ListN.{length}
 use Rattle.schedule.specs.Limits as limit
-use Rattle.schedule.specs.Reading.{measuredAt, Placed, broken, surplus, placed, and, placesFrom}
-use Rattle.schedule.specs.Counting.{counted, countedOf}
+use Rattle.schedule.specs.Reading.{measured_at, Placed, broken, surplus, placed, and, places_from}
+use Rattle.schedule.specs.Counting.{counted, counted_of}
 use Rattle.schedule.specs.declared.lengths.Measured.TheVariants.{End, Broken, Whole}
 use Rattle.schedule.specs.declared.front.Fault.TheVariants.{Step, Surplus}
 use Rattle.schedule.specs.declared.count.Counted.TheVariants.{Faulty, Steps}
@@ -23,38 +23,38 @@ module _ (kind : ℕ) (f : List ℕ) (from : ℕ) where
   -- the loop's invariant: k steps stand before `at`, and with those from there on they are the file's
   pub record Underway (at k : ℕ) : Type 0 where
     pub below : k ≤ limit.steps
-    pub rest : counted k (placesFrom kind (limit.steps - k) f at k) ≡ countedOf kind f from
+    pub rest : counted k (places_from kind (limit.steps - k) f at k) ≡ counted_of kind f from
 
   pub begins : Underway from 0
-  unfolding countedOf
+  unfolding counted_of
   begins = let z : limit.steps - 0 ≡ limit.steps = omega arith in record { below = omega arith; rest = rw z }
 
   module _ (at k : ℕ) (u : Underway at k) where
     module _ (full : k ≡ limit.steps) where
-      pub ends-full : length f ≤ at → Steps k ≡ countedOf kind f from
-      unfolding placesFrom
-      ends-full h = let z : limit.steps - k ≡ 0 = omega arith in let e = u.rest in rw (z, le-ltb at (length f) h, add-zero) at e
+      pub ends_full : length f ≤ at → Steps k ≡ counted_of kind f from
+      unfolding places_from
+      ends_full h = let z : limit.steps - k ≡ 0 = omega arith in let e = u.rest in rw (z, le-ltb at (length f) h, add-zero) at e
 
-      pub ends-surplus : at < length f → Faulty Surplus ≡ countedOf kind f from
-      unfolding placesFrom
-      ends-surplus h = let z : limit.steps - k ≡ 0 = omega arith in let e = u.rest in rw (z, lt-ltb at (length f) h) at e
+      pub ends_surplus : at < length f → Faulty Surplus ≡ counted_of kind f from
+      unfolding places_from
+      ends_surplus h = let z : limit.steps - k ≡ 0 = omega arith in let e = u.rest in rw (z, lt-ltb at (length f) h) at e
 
     module _ (more : k ≡ limit.steps → ⊥) where
       one : limit.steps - k ≡ suc (limit.steps - (k + 1))
       one = omega (arith, u.below)
 
-      pub ends : End ≡ measuredAt kind f at → Steps k ≡ countedOf kind f from
-      unfolding placesFrom
+      pub ends : End ≡ measured_at kind f at → Steps k ≡ counted_of kind f from
+      unfolding places_from
       ends e = rw (one, ← e, add-zero) at u.rest
 
-      pub ends-broken : Broken ≡ measuredAt kind f at → Faulty (Step k) ≡ countedOf kind f from
-      unfolding placesFrom
-      ends-broken e = rw (one, ← e) at u.rest
+      pub ends_broken : Broken ≡ measured_at kind f at → Faulty (Step k) ≡ counted_of kind f from
+      unfolding places_from
+      ends_broken e = rw (one, ← e) at u.rest
 
-      pub goes_on : (next : ℕ) → Whole next ≡ measuredAt kind f at → Underway next (k + 1)
-      unfolding placesFrom
+      pub goes_on : (next : ℕ) → Whole next ≡ measured_at kind f at → Underway next (k + 1)
+      unfolding places_from
       goes_on next e =
           record {
             below = omega (arith, u.below);
-            rest = one_more k at (placesFrom kind (limit.steps - (k + 1)) f next (k + 1)) ∙ (rw (one, ← e) at u.rest);
+            rest = one_more k at (places_from kind (limit.steps - (k + 1)) f next (k + 1)) ∙ (rw (one, ← e) at u.rest);
           }

@@ -12,22 +12,22 @@ use Rattle.rows.specs.Bytes.{number_at}
 use Rattle.rows.proofs.Cases.{on}
 use Rattle.schedule.specs.Limits as limit
 use Rattle.schedule.specs.Widths as kind
-use Rattle.schedule.specs.Front.{flatFront, lockFront, flagFront, kindFront, opened_of}
-use Rattle.schedule.specs.Given.{WrongLength, RightLength, WrongVersion, LongBody, Framed, UnknownKind, Ready, flatReady, lockReady, countingReady, flagReady, WrongParameter}
+use Rattle.schedule.specs.Front.{flat_front, lock_front, flag_front, kind_front, opened_of}
+use Rattle.schedule.specs.Given.{WrongLength, RightLength, WrongVersion, LongBody, Framed, UnknownKind, Ready, flat_ready, lock_ready, counting_ready, flag_ready, WrongParameter}
 use Rattle.schedule.specs.declared.steps.Params.{Params}
 use Rattle.schedule.specs.declared.steps.Params.TheVariants.{Flat, Lock, Counting, Flag}
 use Rattle.schedule.specs.declared.front.Fault.TheVariants.{Length, Version, Body, Kind, Parameter, Step, Surplus}
 use Rattle.schedule.specs.declared.front.Opened.{Opened}
 use Rattle.schedule.specs.declared.front.Opened.TheVariants.{Faulty, Open}
-use Rattle.schedule.proofs.MeasureSays.{by-test}
+use Rattle.schedule.proofs.MeasureSays.{by_test}
 
 module _ (f : List ℕ) where
   -- the parameters of a front that is ready
   abbrev pub params_of : {from : ℕ} → Ready f from → Params
-  params_of (flatReady k l n) = Flat (get_or f 4 0)
-  params_of (lockReady k l m n) = Lock (get_or f 4 0) (number_at f 5 4)
-  params_of (countingReady k) = Counting
-  params_of (flagReady k l m n v) = Flag (get_or f 4 0) (eqb (get_or f 5 0) 1)
+  params_of (flat_ready k l n) = Flat (get_or f 4 0)
+  params_of (lock_ready k l m n) = Lock (get_or f 4 0) (number_at f 5 4)
+  params_of (counting_ready k) = Counting
+  params_of (flag_ready k l m n v) = Flag (get_or f 4 0) (eqb (get_or f 5 0) 1)
 
   -- the front passes all its tests
   pub record Passed (p : Params) (from : ℕ) : Type 0 where
@@ -47,79 +47,79 @@ module _ (f : List ℕ) where
 
   -- ---- what each kind asks of its parameters
 
-  flat-asks : {from : ℕ} → get_or f 3 0 ≡ kind.flat → Ready f from → (5 ≤ length f) × (get_or f 4 0 ≤ limit.clients)
-  flat-asks k (flatReady k' l n) = (l, n)
-  flat-asks k (lockReady k' l m n) = absurd (omega arith)
-  flat-asks k (countingReady k') = absurd (omega arith)
-  flat-asks k (flagReady k' l m n v) = absurd (omega arith)
+  flat_asks : {from : ℕ} → get_or f 3 0 ≡ kind.flat → Ready f from → (5 ≤ length f) × (get_or f 4 0 ≤ limit.clients)
+  flat_asks k (flat_ready k' l n) = (l, n)
+  flat_asks k (lock_ready k' l m n) = absurd (omega arith)
+  flat_asks k (counting_ready k') = absurd (omega arith)
+  flat_asks k (flag_ready k' l m n v) = absurd (omega arith)
 
-  lock-asks : {from : ℕ} → get_or f 3 0 ≡ kind.lock → Ready f from → (9 ≤ length f) × (1 ≤ get_or f 4 0) × (get_or f 4 0 ≤ limit.width)
-  lock-asks k (flatReady k' l n) = absurd (omega arith)
-  lock-asks k (lockReady k' l m n) = (l, m, n)
-  lock-asks k (countingReady k') = absurd (omega arith)
-  lock-asks k (flagReady k' l m n v) = absurd (omega arith)
+  lock_asks : {from : ℕ} → get_or f 3 0 ≡ kind.lock → Ready f from → (9 ≤ length f) × (1 ≤ get_or f 4 0) × (get_or f 4 0 ≤ limit.width)
+  lock_asks k (flat_ready k' l n) = absurd (omega arith)
+  lock_asks k (lock_ready k' l m n) = (l, m, n)
+  lock_asks k (counting_ready k') = absurd (omega arith)
+  lock_asks k (flag_ready k' l m n v) = absurd (omega arith)
 
-  flag-asks : {from : ℕ} → get_or f 3 0 ≡ kind.flag → Ready f from → (6 ≤ length f) × (1 ≤ get_or f 4 0) × (get_or f 4 0 ≤ limit.threads) × (get_or f 5 0 ≤ 1)
-  flag-asks k (flatReady k' l n) = absurd (omega arith)
-  flag-asks k (lockReady k' l m n) = absurd (omega arith)
-  flag-asks k (countingReady k') = absurd (omega arith)
-  flag-asks k (flagReady k' l m n v) = (l, m, n, v)
+  flag_asks : {from : ℕ} → get_or f 3 0 ≡ kind.flag → Ready f from → (6 ≤ length f) × (1 ≤ get_or f 4 0) × (get_or f 4 0 ≤ limit.threads) × (get_or f 5 0 ≤ 1)
+  flag_asks k (flat_ready k' l n) = absurd (omega arith)
+  flag_asks k (lock_ready k' l m n) = absurd (omega arith)
+  flag_asks k (counting_ready k') = absurd (omega arith)
+  flag_asks k (flag_ready k' l m n v) = (l, m, n, v)
 
   -- ---- from the answer to the file
 
   module _ (g : Framed f) where
     module _ (k : get_or f 3 0 ≡ kind.flat) where
-      flat-wrong : ((5 ≤ length f) × (get_or f 4 0 ≤ limit.clients) → ⊥) → WrongParameter f
-      flat-wrong n = record { framed = g; known = inl k; wrong = λ from r. n (flat-asks k r) }
+      flat_wrong : ((5 ≤ length f) × (get_or f 4 0 ≤ limit.clients) → ⊥) → WrongParameter f
+      flat_wrong n = record { framed = g; known = inl k; wrong = λ from r. n (flat_asks k r) }
 
-      flat-says : FrontSays (flatFront f)
-      flat-says =
-          by-test FrontSays (ltb (length f) 5) _ _ (λ e. flat-wrong (λ h. omega (arith, ltb-true (length f) 5 e)))
-          (λ a. by-test FrontSays (ltb limit.clients (get_or f 4 0)) _ _ (λ e. flat-wrong (λ h. omega (arith, ltb-true limit.clients (get_or f 4 0) e)))
-          (λ b. record { framed = g; ready = flatReady k (ltb-false (length f) 5 a) (ltb-false limit.clients (get_or f 4 0) b); params = refl }))
+      flat_says : FrontSays (flat_front f)
+      flat_says =
+          by_test FrontSays (ltb (length f) 5) _ _ (λ e. flat_wrong (λ h. omega (arith, ltb-true (length f) 5 e)))
+          (λ a. by_test FrontSays (ltb limit.clients (get_or f 4 0)) _ _ (λ e. flat_wrong (λ h. omega (arith, ltb-true limit.clients (get_or f 4 0) e)))
+          (λ b. record { framed = g; ready = flat_ready k (ltb-false (length f) 5 a) (ltb-false limit.clients (get_or f 4 0) b); params = refl }))
 
     module _ (k : get_or f 3 0 ≡ kind.lock) where
-      lock-wrong : ((9 ≤ length f) × (1 ≤ get_or f 4 0) × (get_or f 4 0 ≤ limit.width) → ⊥) → WrongParameter f
-      lock-wrong n = record { framed = g; known = inr (inl k); wrong = λ from r. n (lock-asks k r) }
+      lock_wrong : ((9 ≤ length f) × (1 ≤ get_or f 4 0) × (get_or f 4 0 ≤ limit.width) → ⊥) → WrongParameter f
+      lock_wrong n = record { framed = g; known = inr (inl k); wrong = λ from r. n (lock_asks k r) }
 
-      lock-says : FrontSays (lockFront f)
-      lock-says =
-          by-test FrontSays (ltb (length f) 9) _ _ (λ e. lock-wrong (λ h. omega (arith, ltb-true (length f) 9 e)))
-          (λ a. by-test FrontSays (eqb (get_or f 4 0) 0) _ _ (λ e. lock-wrong (λ h. omega (arith, eqb-true (get_or f 4 0) 0 e)))
-          (λ z. by-test FrontSays (ltb limit.width (get_or f 4 0)) _ _ (λ e. lock-wrong (λ h. omega (arith, ltb-true limit.width (get_or f 4 0) e)))
+      lock_says : FrontSays (lock_front f)
+      lock_says =
+          by_test FrontSays (ltb (length f) 9) _ _ (λ e. lock_wrong (λ h. omega (arith, ltb-true (length f) 9 e)))
+          (λ a. by_test FrontSays (eqb (get_or f 4 0) 0) _ _ (λ e. lock_wrong (λ h. omega (arith, eqb-true (get_or f 4 0) 0 e)))
+          (λ z. by_test FrontSays (ltb limit.width (get_or f 4 0)) _ _ (λ e. lock_wrong (λ h. omega (arith, ltb-true limit.width (get_or f 4 0) e)))
           (λ b.
           record {
             framed = g;
-            ready = lockReady k (ltb-false (length f) 9 a) (omega (arith, eqb-false (get_or f 4 0) 0 z)) (ltb-false limit.width (get_or f 4 0) b);
+            ready = lock_ready k (ltb-false (length f) 9 a) (omega (arith, eqb-false (get_or f 4 0) 0 z)) (ltb-false limit.width (get_or f 4 0) b);
             params = refl;
           })))
 
     module _ (k : get_or f 3 0 ≡ kind.flag) where
-      flag-wrong : ((6 ≤ length f) × (1 ≤ get_or f 4 0) × (get_or f 4 0 ≤ limit.threads) × (get_or f 5 0 ≤ 1) → ⊥) → WrongParameter f
-      flag-wrong n = record { framed = g; known = inr (inr (inr k)); wrong = λ from r. n (flag-asks k r) }
+      flag_wrong : ((6 ≤ length f) × (1 ≤ get_or f 4 0) × (get_or f 4 0 ≤ limit.threads) × (get_or f 5 0 ≤ 1) → ⊥) → WrongParameter f
+      flag_wrong n = record { framed = g; known = inr (inr (inr k)); wrong = λ from r. n (flag_asks k r) }
 
-      flag-says : FrontSays (flagFront f)
-      flag-says =
-          by-test FrontSays (ltb (length f) 6) _ _ (λ e. flag-wrong (λ h. omega (arith, ltb-true (length f) 6 e)))
-          (λ a. by-test FrontSays (eqb (get_or f 4 0) 0) _ _ (λ e. flag-wrong (λ h. omega (arith, eqb-true (get_or f 4 0) 0 e)))
-          (λ z. by-test FrontSays (ltb limit.threads (get_or f 4 0)) _ _ (λ e. flag-wrong (λ h. omega (arith, ltb-true limit.threads (get_or f 4 0) e)))
-          (λ b. by-test FrontSays (ltb 1 (get_or f 5 0)) _ _ (λ e. flag-wrong (λ h. omega (arith, ltb-true 1 (get_or f 5 0) e)))
+      flag_says : FrontSays (flag_front f)
+      flag_says =
+          by_test FrontSays (ltb (length f) 6) _ _ (λ e. flag_wrong (λ h. omega (arith, ltb-true (length f) 6 e)))
+          (λ a. by_test FrontSays (eqb (get_or f 4 0) 0) _ _ (λ e. flag_wrong (λ h. omega (arith, eqb-true (get_or f 4 0) 0 e)))
+          (λ z. by_test FrontSays (ltb limit.threads (get_or f 4 0)) _ _ (λ e. flag_wrong (λ h. omega (arith, ltb-true limit.threads (get_or f 4 0) e)))
+          (λ b. by_test FrontSays (ltb 1 (get_or f 5 0)) _ _ (λ e. flag_wrong (λ h. omega (arith, ltb-true 1 (get_or f 5 0) e)))
           (λ v.
           record {
             framed = g;
             ready =
-                flagReady k (ltb-false (length f) 6 a) (omega (arith, eqb-false (get_or f 4 0) 0 z)) (ltb-false limit.threads (get_or f 4 0) b)
+                flag_ready k (ltb-false (length f) 6 a) (omega (arith, eqb-false (get_or f 4 0) 0 z)) (ltb-false limit.threads (get_or f 4 0) b)
                 (ltb-false 1 (get_or f 5 0) v);
             params = refl;
           }))))
 
-    kind-says : FrontSays (kindFront (get_or f 3 0) f)
-    kind-says =
-        by-test FrontSays (eqb (get_or f 3 0) kind.flat) _ _ (λ k. flat-says (eqb-true (get_or f 3 0) kind.flat k))
-        (λ a. by-test FrontSays (eqb (get_or f 3 0) kind.lock) _ _ (λ k. lock-says (eqb-true (get_or f 3 0) kind.lock k))
-        (λ b. by-test FrontSays (eqb (get_or f 3 0) kind.counting) _ _
-        (λ k. let e = eqb-true (get_or f 3 0) kind.counting k in record { framed = g; ready = countingReady e; params = refl })
-        (λ c. by-test FrontSays (eqb (get_or f 3 0) kind.flag) _ _ (λ k. flag-says (eqb-true (get_or f 3 0) kind.flag k))
+    kind_says : FrontSays (kind_front (get_or f 3 0) f)
+    kind_says =
+        by_test FrontSays (eqb (get_or f 3 0) kind.flat) _ _ (λ k. flat_says (eqb-true (get_or f 3 0) kind.flat k))
+        (λ a. by_test FrontSays (eqb (get_or f 3 0) kind.lock) _ _ (λ k. lock_says (eqb-true (get_or f 3 0) kind.lock k))
+        (λ b. by_test FrontSays (eqb (get_or f 3 0) kind.counting) _ _
+        (λ k. let e = eqb-true (get_or f 3 0) kind.counting k in record { framed = g; ready = counting_ready e; params = refl })
+        (λ c. by_test FrontSays (eqb (get_or f 3 0) kind.flag) _ _ (λ k. flag_says (eqb-true (get_or f 3 0) kind.flag k))
         (λ d.
         record {
           framed = g;
@@ -128,63 +128,63 @@ module _ (f : List ℕ) where
               (⊎_elim (eqb-false (get_or f 3 0) kind.lock b) (⊎_elim (eqb-false (get_or f 3 0) kind.counting c) (eqb-false (get_or f 3 0) kind.flag d)));
         }))))
 
-  pub front-says : FrontSays (opened_of f)
+  pub front_says : FrontSays (opened_of f)
   unfolding opened_of
-  front-says =
-      by-test FrontSays (ltb (length f) 4) _ _ (λ e. inl (ltb-true (length f) 4 e))
-      (λ a. by-test FrontSays (not (eqb (number_at f 1 2) (length f - 3))) _ _ (λ e. inr (eqb-false (number_at f 1 2) (length f - 3) (not-true _ e)))
+  front_says =
+      by_test FrontSays (ltb (length f) 4) _ _ (λ e. inl (ltb-true (length f) 4 e))
+      (λ a. by_test FrontSays (not (eqb (number_at f 1 2) (length f - 3))) _ _ (λ e. inr (eqb-false (number_at f 1 2) (length f - 3) (not-true _ e)))
       (λ b.
       let sized : RightLength f = record { long = ltb-false (length f) 4 a; told = eqb-true (number_at f 1 2) (length f - 3) (not-false _ b) } in
-      by-test FrontSays (not (eqb (get_or f 0 0) 1)) _ _ (λ e. record { sized = sized; version = eqb-false (get_or f 0 0) 1 (not-true _ e) })
+      by_test FrontSays (not (eqb (get_or f 0 0) 1)) _ _ (λ e. record { sized = sized; version = eqb-false (get_or f 0 0) 1 (not-true _ e) })
       (λ c.
       let one : get_or f 0 0 ≡ 1 = eqb-true (get_or f 0 0) 1 (not-false _ c) in
-      by-test FrontSays (ltb limit.body (length f - 3)) _ _
+      by_test FrontSays (ltb limit.body (length f - 3)) _ _
       (λ e. record { sized = sized; version = one; long = ltb-true limit.body (length f - 3) e })
-      (λ d. kind-says (record { sized = sized; version = one; short = ltb-false limit.body (length f - 3) d })))))
+      (λ d. kind_says (record { sized = sized; version = one; short = ltb-false limit.body (length f - 3) d })))))
 
   -- ---- from the file to the answer
 
-  pub length-opened : WrongLength f → opened_of f ≡ Faulty Length
+  pub length_opened : WrongLength f → opened_of f ≡ Faulty Length
   unfolding opened_of
-  length-opened (inl h) = rw (lt-ltb (length f) 4 h)
-  length-opened (inr n) = on (ltb (length f) 4) (λ e. rw e) (λ e. rw (e, ne_eqb _ _ n))
+  length_opened (inl h) = rw (lt-ltb (length f) 4 h)
+  length_opened (inr n) = on (ltb (length f) 4) (λ e. rw e) (λ e. rw (e, ne_eqb _ _ n))
 
-  pub version-opened : WrongVersion f → opened_of f ≡ Faulty Version
+  pub version_opened : WrongVersion f → opened_of f ≡ Faulty Version
   unfolding opened_of
-  version-opened w = rw (le-ltb _ _ w.sized.long, eq-eqb _ _ w.sized.told, ne_eqb _ _ w.version)
+  version_opened w = rw (le-ltb _ _ w.sized.long, eq-eqb _ _ w.sized.told, ne_eqb _ _ w.version)
 
-  pub body-opened : LongBody f → opened_of f ≡ Faulty Body
+  pub body_opened : LongBody f → opened_of f ≡ Faulty Body
   unfolding opened_of
-  body-opened w = rw (le-ltb _ _ w.sized.long, eq-eqb _ _ w.sized.told, eq-eqb _ _ w.version, lt-ltb _ _ w.long)
+  body_opened w = rw (le-ltb _ _ w.sized.long, eq-eqb _ _ w.sized.told, eq-eqb _ _ w.version, lt-ltb _ _ w.long)
 
-  framed-opened : Framed f → opened_of f ≡ kindFront (get_or f 3 0) f
+  framed_opened : Framed f → opened_of f ≡ kind_front (get_or f 3 0) f
   unfolding opened_of
-  framed-opened g = rw (le-ltb _ _ g.sized.long, eq-eqb _ _ g.sized.told, eq-eqb _ _ g.version, le-ltb _ _ g.short)
+  framed_opened g = rw (le-ltb _ _ g.sized.long, eq-eqb _ _ g.sized.told, eq-eqb _ _ g.version, le-ltb _ _ g.short)
 
-  pub kind-opened : UnknownKind f → opened_of f ≡ Faulty Kind
-  kind-opened w =
-      framed-opened w.framed
+  pub kind_opened : UnknownKind f → opened_of f ≡ Faulty Kind
+  kind_opened w =
+      framed_opened w.framed
       ∙ rw (ne_eqb _ _ (λ e. w.unknown (inl e)), ne_eqb _ _ (λ e. w.unknown (inr (inl e))), ne_eqb _ _ (λ e. w.unknown (inr (inr (inl e)))), ne_eqb _ _ (λ e. w.unknown (inr (inr (inr e)))))
 
-  pub ready-opened : {from : ℕ} → Framed f → (r : Ready f from) → opened_of f ≡ Open (params_of r) from
-  ready-opened g (flatReady k l n) = framed-opened g ∙ rw (k, le-ltb (length f) 5 l, le-ltb limit.clients (get_or f 4 0) n)
-  ready-opened g (lockReady k l m n) =
-      framed-opened g ∙ rw (k, le-ltb (length f) 9 l, ne_eqb (get_or f 4 0) 0 (λ e. omega arith), le-ltb limit.width (get_or f 4 0) n)
-  ready-opened g (countingReady k) = framed-opened g ∙ rw k
-  ready-opened g (flagReady k l m n v) =
-      framed-opened g
+  pub ready_opened : {from : ℕ} → Framed f → (r : Ready f from) → opened_of f ≡ Open (params_of r) from
+  ready_opened g (flat_ready k l n) = framed_opened g ∙ rw (k, le-ltb (length f) 5 l, le-ltb limit.clients (get_or f 4 0) n)
+  ready_opened g (lock_ready k l m n) =
+      framed_opened g ∙ rw (k, le-ltb (length f) 9 l, ne_eqb (get_or f 4 0) 0 (λ e. omega arith), le-ltb limit.width (get_or f 4 0) n)
+  ready_opened g (counting_ready k) = framed_opened g ∙ rw k
+  ready_opened g (flag_ready k l m n v) =
+      framed_opened g
       ∙ rw (k, le-ltb (length f) 6 l, ne_eqb (get_or f 4 0) 0 (λ e. omega arith), le-ltb limit.threads (get_or f 4 0) n, le-ltb 1 (get_or f 5 0) v)
 
-  only-parameter : (o : Opened) → FrontSays o → WrongParameter f → o ≡ Faulty Parameter
-  only-parameter (Faulty Length) (inl h) w = absurd (omega (arith, w.framed.sized.long))
-  only-parameter (Faulty Length) (inr n) w = absurd (n w.framed.sized.told)
-  only-parameter (Faulty Version) s w = absurd (s.version w.framed.version)
-  only-parameter (Faulty Body) s w = absurd (omega (arith, s.long, w.framed.short))
-  only-parameter (Faulty Kind) s w = absurd (s.unknown w.known)
-  only-parameter (Faulty Parameter) s w = refl
-  only-parameter (Faulty (Step k)) s w = absurd s
-  only-parameter (Faulty Surplus) s w = absurd s
-  only-parameter (Open p from) s w = absurd (w.wrong from s.ready)
+  only_parameter : (o : Opened) → FrontSays o → WrongParameter f → o ≡ Faulty Parameter
+  only_parameter (Faulty Length) (inl h) w = absurd (omega (arith, w.framed.sized.long))
+  only_parameter (Faulty Length) (inr n) w = absurd (n w.framed.sized.told)
+  only_parameter (Faulty Version) s w = absurd (s.version w.framed.version)
+  only_parameter (Faulty Body) s w = absurd (omega (arith, s.long, w.framed.short))
+  only_parameter (Faulty Kind) s w = absurd (s.unknown w.known)
+  only_parameter (Faulty Parameter) s w = refl
+  only_parameter (Faulty (Step k)) s w = absurd s
+  only_parameter (Faulty Surplus) s w = absurd s
+  only_parameter (Open p from) s w = absurd (w.wrong from s.ready)
 
-  pub parameter-opened : WrongParameter f → opened_of f ≡ Faulty Parameter
-  parameter-opened w = only-parameter (opened_of f) front-says w
+  pub parameter_opened : WrongParameter f → opened_of f ≡ Faulty Parameter
+  parameter_opened w = only_parameter (opened_of f) front_says w

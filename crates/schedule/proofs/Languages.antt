@@ -4,9 +4,9 @@ use mathlib.Core.List.{List, [], ◌∷◌}
 use Prim.Native.Nat.{ℕ, zero, suc, ◌+◌, ◌≤◌, ◌<◌}
 use native.Mathlib.Omega.{arith}
 use lib.ListN.{length, get_or, drop}
-use Rattle.rows.proofs.Rows.{drop-one, drop-end}
-use Rattle.schedule.specs.Widths.{widths, widthsOf, length_of, numberWidths}
-use Rattle.schedule.specs.Language.{Language, stepLength, size_of}
+use Rattle.rows.proofs.Rows.{drop_one, drop_end}
+use Rattle.schedule.specs.Widths.{widths, widths_of, length_of, number_widths}
+use Rattle.schedule.specs.Language.{Language, step_length, size_of}
 use Rattle.schedule.specs.Spelling.{flat, lock, counting, flag}
 use Rattle.schedule.specs.declared.steps.FlatStep.{FlatStep}
 use Rattle.schedule.specs.declared.steps.FlatStep.TheVariants.{ClientSend, ClientRecv, CombinerRecv, CombinerSkip, CombinerGoToResponding, CombinerSend, CombinerSendSkip, CombinerGoToCollecting}
@@ -21,7 +21,7 @@ use Rattle.schedule.proofs.Numbers.{total}
 -- of a step: its tag and numbers make it again, its tag takes a byte, and it takes at most 10 bytes behind its length byte
 pub record Spelled {S : Type 0} (l : Language S) (x : S) : Type 0 where
   pub again : l.step (l.tag x) (l.numbers x) ≡ x
-  pub tagged : widthsOf l.kind (l.tag x) ≡ 1 ∷ numberWidths l.kind (l.tag x)
+  pub tagged : widths_of l.kind (l.tag x) ≡ 1 ∷ number_widths l.kind (l.tag x)
   pub short : length_of l.kind (l.tag x) ≤ 10
 
 -- of a tag and numbers: the step that they make has them
@@ -31,7 +31,7 @@ pub record Kept {S : Type 0} (l : Language S) (t : ℕ) (ns : List ℕ) : Type 0
 
 -- it does wherever the kind has the tag and the tag takes as many numbers
 abbrev pub Keeps : {S : Type 0} → Language S → Type 0
-Keeps l = (t : ℕ) (ns : List ℕ) → 0 < length_of l.kind t → length ns ≡ length (numberWidths l.kind t) → Kept l t ns
+Keeps l = (t : ℕ) (ns : List ℕ) → 0 < length_of l.kind t → length ns ≡ length (number_widths l.kind t) → Kept l t ns
 
 pub record Lawful {S : Type 0} (l : Language S) : Type 0 where
   pub spelled : (x : S) → Spelled l x
@@ -41,7 +41,7 @@ pub record Lawful {S : Type 0} (l : Language S) : Type 0 where
 
 module _ {S : Type 0} (l : Language S) (law : Lawful l) (x : S) where
   -- a byte for the tag, and the bytes of the numbers
-  pub parts : stepLength l x ≡ 1 + total (numberWidths l.kind (l.tag x))
+  pub parts : step_length l x ≡ 1 + total (number_widths l.kind (l.tag x))
   parts = ap total (law.spelled x).tagged
 
   -- a length byte, a tag, and at most nine bytes of numbers
@@ -55,79 +55,79 @@ entries zero i ns = []
 entries (suc n) i ns = get_or ns i 0 ∷ entries n (i + 1) ns
 
 entries_from : (n i : ℕ) (ns : List ℕ) → length ns ≡ i + n → entries n i ns ≡ drop i ns
-entries_from zero i ns e = sym (drop-end ns i (omega arith))
-entries_from (suc n) i ns e = rw (entries_from n (i + 1) ns (omega arith)) (sym (drop-one ns i 0 (omega arith)))
+entries_from zero i ns e = sym (drop_end ns i (omega arith))
+entries_from (suc n) i ns e = rw (entries_from n (i + 1) ns (omega arith)) (sym (drop_one ns i 0 (omega arith)))
 
 exactly : (n : ℕ) (ns : List ℕ) → length ns ≡ n → entries n 0 ns ≡ ns
 exactly n ns e = entries_from n 0 ns (omega arith)
 
 -- ---- kind 1
 
-flat-spelled : (x : FlatStep) → Spelled flat x
-unfolding widthsOf widths
-flat-spelled (ClientSend j rid req) = record { again = refl; tagged = refl; short = omega arith }
-flat-spelled (ClientRecv j) = record { again = refl; tagged = refl; short = omega arith }
-flat-spelled CombinerRecv = record { again = refl; tagged = refl; short = omega arith }
-flat-spelled CombinerSkip = record { again = refl; tagged = refl; short = omega arith }
-flat-spelled CombinerGoToResponding = record { again = refl; tagged = refl; short = omega arith }
-flat-spelled (CombinerSend rid resp) = record { again = refl; tagged = refl; short = omega arith }
-flat-spelled CombinerSendSkip = record { again = refl; tagged = refl; short = omega arith }
-flat-spelled CombinerGoToCollecting = record { again = refl; tagged = refl; short = omega arith }
+flat_spelled : (x : FlatStep) → Spelled flat x
+unfolding widths_of widths
+flat_spelled (ClientSend j rid req) = record { again = refl; tagged = refl; short = omega arith }
+flat_spelled (ClientRecv j) = record { again = refl; tagged = refl; short = omega arith }
+flat_spelled CombinerRecv = record { again = refl; tagged = refl; short = omega arith }
+flat_spelled CombinerSkip = record { again = refl; tagged = refl; short = omega arith }
+flat_spelled CombinerGoToResponding = record { again = refl; tagged = refl; short = omega arith }
+flat_spelled (CombinerSend rid resp) = record { again = refl; tagged = refl; short = omega arith }
+flat_spelled CombinerSendSkip = record { again = refl; tagged = refl; short = omega arith }
+flat_spelled CombinerGoToCollecting = record { again = refl; tagged = refl; short = omega arith }
 
-flat-kept : Keeps flat
-unfolding widthsOf widths
-flat-kept zero ns h e = absurd (omega arith)
-flat-kept (suc zero) ns h e = record { tag = refl; numbers = exactly 3 ns e }
-flat-kept (suc (suc zero)) ns h e = record { tag = refl; numbers = exactly 1 ns e }
-flat-kept (suc (suc (suc zero))) ns h e = record { tag = refl; numbers = exactly 0 ns e }
-flat-kept (suc (suc (suc (suc zero)))) ns h e = record { tag = refl; numbers = exactly 0 ns e }
-flat-kept (suc (suc (suc (suc (suc zero))))) ns h e = record { tag = refl; numbers = exactly 0 ns e }
-flat-kept (suc (suc (suc (suc (suc (suc zero)))))) ns h e = record { tag = refl; numbers = exactly 2 ns e }
-flat-kept (suc (suc (suc (suc (suc (suc (suc zero))))))) ns h e = record { tag = refl; numbers = exactly 0 ns e }
-flat-kept (suc (suc (suc (suc (suc (suc (suc (suc zero)))))))) ns h e = record { tag = refl; numbers = exactly 0 ns e }
-flat-kept (suc (suc (suc (suc (suc (suc (suc (suc (suc t))))))))) ns h e = absurd (omega arith)
+flat_kept : Keeps flat
+unfolding widths_of widths
+flat_kept zero ns h e = absurd (omega arith)
+flat_kept (suc zero) ns h e = record { tag = refl; numbers = exactly 3 ns e }
+flat_kept (suc (suc zero)) ns h e = record { tag = refl; numbers = exactly 1 ns e }
+flat_kept (suc (suc (suc zero))) ns h e = record { tag = refl; numbers = exactly 0 ns e }
+flat_kept (suc (suc (suc (suc zero)))) ns h e = record { tag = refl; numbers = exactly 0 ns e }
+flat_kept (suc (suc (suc (suc (suc zero))))) ns h e = record { tag = refl; numbers = exactly 0 ns e }
+flat_kept (suc (suc (suc (suc (suc (suc zero)))))) ns h e = record { tag = refl; numbers = exactly 2 ns e }
+flat_kept (suc (suc (suc (suc (suc (suc (suc zero))))))) ns h e = record { tag = refl; numbers = exactly 0 ns e }
+flat_kept (suc (suc (suc (suc (suc (suc (suc (suc zero)))))))) ns h e = record { tag = refl; numbers = exactly 0 ns e }
+flat_kept (suc (suc (suc (suc (suc (suc (suc (suc (suc t))))))))) ns h e = absurd (omega arith)
 
-pub flat-lawful : Lawful flat
-flat-lawful = record { spelled = flat-spelled; kept = flat-kept }
+pub flat_lawful : Lawful flat
+flat_lawful = record { spelled = flat_spelled; kept = flat_kept }
 
 -- ---- kind 2
 
-lock-spelled : (x : LockStep) → Spelled lock x
-unfolding widthsOf widths
-lock-spelled ExcStart = record { again = refl; tagged = refl; short = omega arith }
-lock-spelled ExcCheckCount = record { again = refl; tagged = refl; short = omega arith }
-lock-spelled ExcFinish = record { again = refl; tagged = refl; short = omega arith }
-lock-spelled (ExcRelease t) = record { again = refl; tagged = refl; short = omega arith }
-lock-spelled (SharedStart r) = record { again = refl; tagged = refl; short = omega arith }
-lock-spelled (SharedFinish r) = record { again = refl; tagged = refl; short = omega arith }
-lock-spelled (SharedRelease r t) = record { again = refl; tagged = refl; short = omega arith }
+lock_spelled : (x : LockStep) → Spelled lock x
+unfolding widths_of widths
+lock_spelled ExcStart = record { again = refl; tagged = refl; short = omega arith }
+lock_spelled ExcCheckCount = record { again = refl; tagged = refl; short = omega arith }
+lock_spelled ExcFinish = record { again = refl; tagged = refl; short = omega arith }
+lock_spelled (ExcRelease t) = record { again = refl; tagged = refl; short = omega arith }
+lock_spelled (SharedStart r) = record { again = refl; tagged = refl; short = omega arith }
+lock_spelled (SharedFinish r) = record { again = refl; tagged = refl; short = omega arith }
+lock_spelled (SharedRelease r t) = record { again = refl; tagged = refl; short = omega arith }
 
-lock-kept : Keeps lock
-unfolding widthsOf widths
-lock-kept zero ns h e = absurd (omega arith)
-lock-kept (suc zero) ns h e = record { tag = refl; numbers = exactly 0 ns e }
-lock-kept (suc (suc zero)) ns h e = record { tag = refl; numbers = exactly 0 ns e }
-lock-kept (suc (suc (suc zero))) ns h e = record { tag = refl; numbers = exactly 0 ns e }
-lock-kept (suc (suc (suc (suc zero)))) ns h e = record { tag = refl; numbers = exactly 1 ns e }
-lock-kept (suc (suc (suc (suc (suc zero))))) ns h e = record { tag = refl; numbers = exactly 1 ns e }
-lock-kept (suc (suc (suc (suc (suc (suc zero)))))) ns h e = record { tag = refl; numbers = exactly 1 ns e }
-lock-kept (suc (suc (suc (suc (suc (suc (suc zero))))))) ns h e = record { tag = refl; numbers = exactly 2 ns e }
-lock-kept (suc (suc (suc (suc (suc (suc (suc (suc t)))))))) ns h e = absurd (omega arith)
+lock_kept : Keeps lock
+unfolding widths_of widths
+lock_kept zero ns h e = absurd (omega arith)
+lock_kept (suc zero) ns h e = record { tag = refl; numbers = exactly 0 ns e }
+lock_kept (suc (suc zero)) ns h e = record { tag = refl; numbers = exactly 0 ns e }
+lock_kept (suc (suc (suc zero))) ns h e = record { tag = refl; numbers = exactly 0 ns e }
+lock_kept (suc (suc (suc (suc zero)))) ns h e = record { tag = refl; numbers = exactly 1 ns e }
+lock_kept (suc (suc (suc (suc (suc zero))))) ns h e = record { tag = refl; numbers = exactly 1 ns e }
+lock_kept (suc (suc (suc (suc (suc (suc zero)))))) ns h e = record { tag = refl; numbers = exactly 1 ns e }
+lock_kept (suc (suc (suc (suc (suc (suc (suc zero))))))) ns h e = record { tag = refl; numbers = exactly 2 ns e }
+lock_kept (suc (suc (suc (suc (suc (suc (suc (suc t)))))))) ns h e = absurd (omega arith)
 
-pub lock-lawful : Lawful lock
-lock-lawful = record { spelled = lock-spelled; kept = lock-kept }
+pub lock_lawful : Lawful lock
+lock_lawful = record { spelled = lock_spelled; kept = lock_kept }
 
 -- ---- kind 3
 
-counting-spelled : (x : CountingStep) → Spelled counting x
-unfolding widthsOf widths
-counting-spelled (WriteableToReadable t) = record { again = refl; tagged = refl; short = omega arith }
-counting-spelled ReadableToWriteable = record { again = refl; tagged = refl; short = omega arith }
-counting-spelled NewRef = record { again = refl; tagged = refl; short = omega arith }
-counting-spelled (DeleteRef t) = record { again = refl; tagged = refl; short = omega arith }
+counting_spelled : (x : CountingStep) → Spelled counting x
+unfolding widths_of widths
+counting_spelled (WriteableToReadable t) = record { again = refl; tagged = refl; short = omega arith }
+counting_spelled ReadableToWriteable = record { again = refl; tagged = refl; short = omega arith }
+counting_spelled NewRef = record { again = refl; tagged = refl; short = omega arith }
+counting_spelled (DeleteRef t) = record { again = refl; tagged = refl; short = omega arith }
 
 counting_kept : Keeps counting
-unfolding widthsOf widths
+unfolding widths_of widths
 counting_kept zero ns h e = absurd (omega arith)
 counting_kept (suc zero) ns h e = record { tag = refl; numbers = exactly 1 ns e }
 counting_kept (suc (suc zero)) ns h e = record { tag = refl; numbers = exactly 0 ns e }
@@ -135,24 +135,24 @@ counting_kept (suc (suc (suc zero))) ns h e = record { tag = refl; numbers = exa
 counting_kept (suc (suc (suc (suc zero)))) ns h e = record { tag = refl; numbers = exactly 1 ns e }
 counting_kept (suc (suc (suc (suc (suc t))))) ns h e = absurd (omega arith)
 
-pub counting-lawful : Lawful counting
-counting-lawful = record { spelled = counting-spelled; kept = counting_kept }
+pub counting_lawful : Lawful counting
+counting_lawful = record { spelled = counting_spelled; kept = counting_kept }
 
 -- ---- kind 4
 
-flag-spelled : (x : FlagStep) → Spelled flag x
-unfolding widthsOf widths
-flag-spelled (Begin k) = record { again = refl; tagged = refl; short = omega arith }
-flag-spelled (Move k) = record { again = refl; tagged = refl; short = omega arith }
-flag-spelled (Read k) = record { again = refl; tagged = refl; short = omega arith }
+flag_spelled : (x : FlagStep) → Spelled flag x
+unfolding widths_of widths
+flag_spelled (Begin k) = record { again = refl; tagged = refl; short = omega arith }
+flag_spelled (Move k) = record { again = refl; tagged = refl; short = omega arith }
+flag_spelled (Read k) = record { again = refl; tagged = refl; short = omega arith }
 
-flag-kept : Keeps flag
-unfolding widthsOf widths
-flag-kept zero ns h e = absurd (omega arith)
-flag-kept (suc zero) ns h e = record { tag = refl; numbers = exactly 1 ns e }
-flag-kept (suc (suc zero)) ns h e = record { tag = refl; numbers = exactly 1 ns e }
-flag-kept (suc (suc (suc zero))) ns h e = record { tag = refl; numbers = exactly 1 ns e }
-flag-kept (suc (suc (suc (suc t)))) ns h e = absurd (omega arith)
+flag_kept : Keeps flag
+unfolding widths_of widths
+flag_kept zero ns h e = absurd (omega arith)
+flag_kept (suc zero) ns h e = record { tag = refl; numbers = exactly 1 ns e }
+flag_kept (suc (suc zero)) ns h e = record { tag = refl; numbers = exactly 1 ns e }
+flag_kept (suc (suc (suc zero))) ns h e = record { tag = refl; numbers = exactly 1 ns e }
+flag_kept (suc (suc (suc (suc t)))) ns h e = absurd (omega arith)
 
-pub flag-lawful : Lawful flag
-flag-lawful = record { spelled = flag-spelled; kept = flag-kept }
+pub flag_lawful : Lawful flag
+flag_lawful = record { spelled = flag_spelled; kept = flag_kept }

@@ -9,16 +9,16 @@ use borrow.Author.Tests.{leb-true, leb-false, ltb-true, ltb-false, eqb-true, eqb
 use lib.Dec.{eqb, ltb, leb}
 use lib.ListN.{length, get_or}
 use Rattle.schedule.specs.Widths.{length_of}
-use Rattle.schedule.specs.Reading.{measuredAt}
+use Rattle.schedule.specs.Reading.{measured_at}
 use Rattle.schedule.specs.Given.{Stands, Malformed}
 use Rattle.schedule.specs.declared.lengths.Measured.{Measured}
 use Rattle.schedule.specs.declared.lengths.Measured.TheVariants.{End, Broken, Whole}
-use Rattle.schedule.proofs.MeasureTests.{at-end, at-whole}
+use Rattle.schedule.proofs.MeasureTests.{at_end, at_whole}
 
 -- what holds of both answers of a test, each in its case, holds of the answer
-pub by-test : {A : Type 0} (P : A → Type 0) (b : Bool) (x y : A) → (b ≡ true → P x) → (b ≡ false → P y) → P (cond b x y)
-by-test P true x y p q = p refl
-by-test P false x y p q = q refl
+pub by_test : {A : Type 0} (P : A → Type 0) (b : Bool) (x y : A) → (b ≡ true → P x) → (b ≡ false → P y) → P (cond b x y)
+by_test P true x y p q = p refl
+by_test P false x y p q = q refl
 
 module _ (kind : ℕ) (f : List ℕ) (at : ℕ) where
   abbrev pub MeasureSays : Measured → Type 0
@@ -26,14 +26,14 @@ module _ (kind : ℕ) (f : List ℕ) (at : ℕ) where
   MeasureSays Broken = Malformed kind f at
   MeasureSays (Whole next) = Stands kind f at next
 
-  pub measure-says : MeasureSays (measuredAt kind f at)
-  unfolding measuredAt
-  measure-says =
-      by-test MeasureSays (leb (length f) at) _ _ (leb-true (length f) at)
+  pub measure_says : MeasureSays (measured_at kind f at)
+  unfolding measured_at
+  measure_says =
+      by_test MeasureSays (leb (length f) at) _ _ (leb-true (length f) at)
       (λ a. let inside : at < length f = leb-false (length f) at a in
-      by-test MeasureSays (eqb (get_or f at 0) 0) _ _ (λ z. (inside, inl (eqb-true (get_or f at 0) 0 z)))
-      (λ z. by-test MeasureSays (ltb (length f) (at + 1 + get_or f at 0)) _ _ (λ p. (inside, inr (inl (ltb-true (length f) (at + 1 + get_or f at 0) p))))
-      (λ p. by-test MeasureSays (eqb (length_of kind (get_or f (at + 1) 0)) (get_or f at 0)) _ _
+      by_test MeasureSays (eqb (get_or f at 0) 0) _ _ (λ z. (inside, inl (eqb-true (get_or f at 0) 0 z)))
+      (λ z. by_test MeasureSays (ltb (length f) (at + 1 + get_or f at 0)) _ _ (λ p. (inside, inr (inl (ltb-true (length f) (at + 1 + get_or f at 0) p))))
+      (λ p. by_test MeasureSays (eqb (length_of kind (get_or f (at + 1) 0)) (get_or f at 0)) _ _
       (λ o. record {
         nonzero = eqb-false (get_or f at 0) 0 z;
         fits = ltb-false (length f) (at + 1 + get_or f at 0) p;
@@ -43,30 +43,30 @@ module _ (kind : ℕ) (f : List ℕ) (at : ℕ) where
       (λ o. (inside, inr (inr (eqb-false (length_of kind (get_or f (at + 1) 0)) (get_or f at 0) o)))))))
 
   -- so a step that was measured whole stands there
-  pub whole-stands : (next : ℕ) → measuredAt kind f at ≡ Whole next → Stands kind f at next
-  whole-stands next e = rw e at measure-says
+  pub whole_stands : (next : ℕ) → measured_at kind f at ≡ Whole next → Stands kind f at next
+  whole_stands next e = rw e at measure_says
 
   -- and each saying is that of one measure only
 
-  pub end-measured : length f ≤ at → measuredAt kind f at ≡ End
-  end-measured h = sym (at-end kind f at h)
+  pub end_measured : length f ≤ at → measured_at kind f at ≡ End
+  end_measured h = sym (at_end kind f at h)
 
-  pub stands-measured : (next : ℕ) → Stands kind f at next → measuredAt kind f at ≡ Whole next
-  stands-measured next s =
+  pub stands_measured : (next : ℕ) → Stands kind f at next → measured_at kind f at ≡ Whole next
+  stands_measured next s =
       let inside : at < length f = omega (arith, s.fits) in
-      rw s.ends (sym (at-whole kind f at inside s.nonzero (omega (arith, s.fits)) _ refl s.own))
+      rw s.ends (sym (at_whole kind f at inside s.nonzero (omega (arith, s.fits)) _ refl s.own))
 
-  stands-sound : (next : ℕ) → Stands kind f at next → Malformed kind f at → ⊥
-  stands-sound next s (inside, wrong) = ⊎_elim s.nonzero (⊎_elim (λ p. omega (arith, s.fits)) (λ o. o s.own)) wrong
+  stands_sound : (next : ℕ) → Stands kind f at next → Malformed kind f at → ⊥
+  stands_sound next s (inside, wrong) = ⊎_elim s.nonzero (⊎_elim (λ p. omega (arith, s.fits)) (λ o. o s.own)) wrong
 
-  only-broken : (m : Measured) → MeasureSays m → Malformed kind f at → m ≡ Broken
-  only-broken End h w = absurd (omega (arith, w.0))
-  only-broken Broken h w = refl
-  only-broken (Whole next) s w = absurd (stands-sound next s w)
+  only_broken : (m : Measured) → MeasureSays m → Malformed kind f at → m ≡ Broken
+  only_broken End h w = absurd (omega (arith, w.0))
+  only_broken Broken h w = refl
+  only_broken (Whole next) s w = absurd (stands_sound next s w)
 
-  pub malformed-measured : Malformed kind f at → measuredAt kind f at ≡ Broken
-  malformed-measured w = only-broken (measuredAt kind f at) measure-says w
+  pub malformed_measured : Malformed kind f at → measured_at kind f at ≡ Broken
+  malformed_measured w = only_broken (measured_at kind f at) measure_says w
 
   -- a whole step ends inside the file
-  pub stands-inside : (next : ℕ) → Stands kind f at next → next ≤ length f
-  stands-inside next s = omega (arith, s.fits, s.ends)
+  pub stands_inside : (next : ℕ) → Stands kind f at next → next ≤ length f
+  stands_inside next s = omega (arith, s.fits, s.ends)

@@ -5,55 +5,55 @@ use Prim.Native.Nat.{ℕ, ◌+◌, ◌≤◌}
 use native.Mathlib.Omega.{arith}
 use lib.ListN.{length, get_or, drop, length-append}
 use Rattle.rows.specs.Bytes.{Bytes}
-use Rattle.rows.proofs.Bytes.{numberAt-one}
-use Rattle.rows.proofs.Rows.{drop-one}
-use Rattle.schedule.specs.Widths.{length_of, numberWidths}
-use Rattle.schedule.specs.Language.{Language, numbersAt, numberBytes, stepAt, stepLength, size_of, stepBytes, Writable}
+use Rattle.rows.proofs.Bytes.{number_at_one}
+use Rattle.rows.proofs.Rows.{drop_one}
+use Rattle.schedule.specs.Widths.{length_of, number_widths}
+use Rattle.schedule.specs.Language.{Language, numbers_at, number_bytes, step_at, step_length, size_of, step_bytes, Writable}
 use Rattle.schedule.specs.Given.{Stands}
-use Rattle.schedule.proofs.Numbers.{total, left-length, left-next, left-first, length-numberBytes, numbers-read, length-numbersAt, numbers_fit, numbers-again}
+use Rattle.schedule.proofs.Numbers.{total, left_length, left_next, left_first, length_number_bytes, numbers_read, length_numbers_at, numbers_fit, numbers_again}
 use Rattle.schedule.proofs.Languages.{Lawful, Kept, parts}
 
 module _ {S : Type 0} (l : Language S) (law : Lawful l) where
-  pub length-stepBytes : (x : S) → Writable l x → length (stepBytes l x) ≡ size_of l x
-  length-stepBytes x w = omega (arith, parts l law x, length-numberBytes (numberWidths l.kind (l.tag x)) (l.numbers x) w)
+  pub length_step_bytes : (x : S) → Writable l x → length (step_bytes l x) ≡ size_of l x
+  length_step_bytes x w = omega (arith, parts l law x, length_number_bytes (number_widths l.kind (l.tag x)) (l.numbers x) w)
 
   -- the step at a place, by the byte of its tag
-  step-at : (f : List ℕ) (at : ℕ)
-      → stepAt l f at ≡ l.step (get_or f (at + 1) 0) (numbersAt f (at + 1 + 1) (numberWidths l.kind (get_or f (at + 1) 0)))
-  unfolding stepAt
-  step-at f at = ap (λ (t : ℕ). l.step t (numbersAt f (at + 1 + 1) (numberWidths l.kind t))) (numberAt-one f (at + 1))
+  step_at_lem : (f : List ℕ) (at : ℕ)
+      → step_at l f at ≡ l.step (get_or f (at + 1) 0) (numbers_at f (at + 1 + 1) (number_widths l.kind (get_or f (at + 1) 0)))
+  unfolding step_at
+  step_at_lem f at = ap (λ (t : ℕ). l.step t (numbers_at f (at + 1 + 1) (number_widths l.kind t))) (number_at_one f (at + 1))
 
   -- ---- a step that was written is read
 
-  module _ (f : List ℕ) (at : ℕ) (x : S) (rest : List ℕ) (w : Writable l x) (e : drop at f ≡ stepBytes l x ++ rest) where
-    pub step-next : drop (at + 1 + stepLength l x) f ≡ rest
-    step-next =
-        let s : at + 1 + stepLength l x ≡ at + size_of l x = omega arith in
-        rw s (left-next f at (stepBytes l x) rest e (size_of l x) (length-stepBytes x w))
+  module _ (f : List ℕ) (at : ℕ) (x : S) (rest : List ℕ) (w : Writable l x) (e : drop at f ≡ step_bytes l x ++ rest) where
+    pub step_next : drop (at + 1 + step_length l x) f ≡ rest
+    step_next =
+        let s : at + 1 + step_length l x ≡ at + size_of l x = omega arith in
+        rw s (left_next f at (step_bytes l x) rest e (size_of l x) (length_step_bytes x w))
 
-    tag-left : drop (at + 1) f ≡ l.tag x ∷ (numberBytes (numberWidths l.kind (l.tag x)) (l.numbers x) ++ rest)
-    tag-left = left-next f at (stepLength l x ∷ []) _ e 1 refl
+    tag_left : drop (at + 1) f ≡ l.tag x ∷ (number_bytes (number_widths l.kind (l.tag x)) (l.numbers x) ++ rest)
+    tag_left = left_next f at (step_length l x ∷ []) _ e 1 refl
 
-    tag-here : get_or f (at + 1) 0 ≡ l.tag x
-    tag-here = left-first f (at + 1) _ _ tag-left
+    tag_here : get_or f (at + 1) 0 ≡ l.tag x
+    tag_here = left_first f (at + 1) _ _ tag_left
 
-    numbers-here : numbersAt f (at + 1 + 1) (numberWidths l.kind (l.tag x)) ≡ l.numbers x
-    numbers-here =
-        numbers-read f (numberWidths l.kind (l.tag x)) (l.numbers x) (at + 1 + 1) rest w
-        (left-next f (at + 1) (l.tag x ∷ []) _ tag-left 1 refl)
+    numbers_here : numbers_at f (at + 1 + 1) (number_widths l.kind (l.tag x)) ≡ l.numbers x
+    numbers_here =
+        numbers_read f (number_widths l.kind (l.tag x)) (l.numbers x) (at + 1 + 1) rest w
+        (left_next f (at + 1) (l.tag x ∷ []) _ tag_left 1 refl)
 
-    pub step-read : stepAt l f at ≡ x
-    step-read = rw (step-at, tag-here, numbers-here) (law.spelled x).again
+    pub step_read : step_at l f at ≡ x
+    step_read = rw (step_at_lem, tag_here, numbers_here) (law.spelled x).again
 
     -- the length byte is not 0, and the file has as many bytes: `made`, `size`, `all` and `long` together
-    pub step-stands : Stands l.kind f at (at + 1 + stepLength l x)
-    step-stands =
-        let first : get_or f at 0 ≡ stepLength l x = left-first f at _ _ e in
-        let long = left-length f at (stepBytes l x ++ rest) e (omega arith) in
-        let size = length-stepBytes x w in
-        let all = length-append (stepBytes l x) rest in
+    pub step_stands : Stands l.kind f at (at + 1 + step_length l x)
+    step_stands =
+        let first : get_or f at 0 ≡ step_length l x = left_first f at _ _ e in
+        let long = left_length f at (step_bytes l x ++ rest) e (omega arith) in
+        let size = length_step_bytes x w in
+        let all = length-append (step_bytes l x) rest in
         let made = parts l law x in
-        record { nonzero = λ z. omega arith; fits = omega arith; own = ap (length_of l.kind) tag-here ∙ sym first; ends = rw first }
+        record { nonzero = λ z. omega arith; fits = omega arith; own = ap (length_of l.kind) tag_here ∙ sym first; ends = rw first }
 
   -- ---- a step that was read is written
 
@@ -62,33 +62,33 @@ module _ {S : Type 0} (l : Language S) (law : Lawful l) where
     tag = get_or f (at + 1) 0
 
     abbrev numbers : List ℕ
-    numbers = numbersAt f (at + 1 + 1) (numberWidths l.kind tag)
+    numbers = numbers_at f (at + 1 + 1) (number_widths l.kind tag)
 
     kept : Kept l tag numbers
-    kept = law.kept tag numbers (omega (arith, s.nonzero, s.own)) (length-numbersAt f (at + 1 + 1) (numberWidths l.kind tag))
+    kept = law.kept tag numbers (omega (arith, s.nonzero, s.own)) (length_numbers_at f (at + 1 + 1) (number_widths l.kind tag))
 
-    tag_is : l.tag (stepAt l f at) ≡ tag
-    tag_is = rw (step-at f at) kept.tag
+    tag_is : l.tag (step_at l f at) ≡ tag
+    tag_is = rw (step_at_lem f at) kept.tag
 
-    numbers-are : l.numbers (stepAt l f at) ≡ numbers
-    numbers-are = rw (step-at f at) kept.numbers
+    numbers_are : l.numbers (step_at l f at) ≡ numbers
+    numbers_are = rw (step_at_lem f at) kept.numbers
 
     -- it ends where its size says, and there end its numbers
-    pub step-ends : next ≡ at + size_of l (stepAt l f at)
-    step-ends = rw tag_is (omega (arith, s.own, s.ends))
+    pub step_ends : next ≡ at + size_of l (step_at l f at)
+    step_ends = rw tag_is (omega (arith, s.own, s.ends))
 
-    numbers-end : at + 1 + 1 + total (numberWidths l.kind tag) ≡ next
-    numbers-end = let made = rw tag_is at (parts l law (stepAt l f at)) in omega (arith, s.own, s.ends)
+    numbers_end : at + 1 + 1 + total (number_widths l.kind tag) ≡ next
+    numbers_end = let made = rw tag_is at (parts l law (step_at l f at)) in omega (arith, s.own, s.ends)
 
-    numbers-inside : at + 1 + 1 + total (numberWidths l.kind tag) ≤ length f
-    numbers-inside = omega (arith, numbers-end, s.fits, s.ends)
+    numbers_inside : at + 1 + 1 + total (number_widths l.kind tag) ≤ length f
+    numbers_inside = omega (arith, numbers_end, s.fits, s.ends)
 
     module _ (bytes : Bytes f) where
-      pub step_fits : Writable l (stepAt l f at)
-      step_fits = rw (tag_is, numbers-are) (numbers_fit f bytes (at + 1 + 1) (numberWidths l.kind tag) numbers-inside)
+      pub step_fits : Writable l (step_at l f at)
+      step_fits = rw (tag_is, numbers_are) (numbers_fit f bytes (at + 1 + 1) (number_widths l.kind tag) numbers_inside)
 
-      pub step-again : stepBytes l (stepAt l f at) ++ drop next f ≡ drop at f
-      step-again =
-          let long = numbers-inside in
-          let more = rw numbers-end at (numbers-again f bytes (at + 1 + 1) (numberWidths l.kind tag) long) in
-          rw (tag_is, numbers-are, s.own, more, ← drop-one f (at + 1) 0 (omega arith), ← drop-one f at 0 (omega arith))
+      pub step_again : step_bytes l (step_at l f at) ++ drop next f ≡ drop at f
+      step_again =
+          let long = numbers_inside in
+          let more = rw numbers_end at (numbers_again f bytes (at + 1 + 1) (number_widths l.kind tag) long) in
+          rw (tag_is, numbers_are, s.own, more, ← drop_one f (at + 1) 0 (omega arith), ← drop_one f at 0 (omega arith))

@@ -10,24 +10,24 @@ use mir.Val.{Fits}
 use lib.ListN.{length}
 use Rattle.rows.specs.Stores.{Laid, puts}
 use Rattle.rows.specs.Walk.{pieces}
-use Rattle.rows.proofs.Stores.{laid-whole}
+use Rattle.rows.proofs.Stores.{laid_whole}
 use Rattle.machine.specs.Codes as code
 use Rattle.machine.specs.Machine.{code_of}
 use Rattle.machine.specs.Replay.{Replayed, replay}
-use Rattle.machine.specs.Loop.{stepsFrom, Left, left}
-use Rattle.machine.proofs.Loops.{Going, begins, going_end, going_next, going-most, going-stop, going-turn}
+use Rattle.machine.specs.Loop.{steps_from, Left, left}
+use Rattle.machine.proofs.Loops.{Going, begins, going_end, going_next, going_most, going_stop, going_turn}
 use Rattle.machine.proofs.Fair.{Fair}
 use Rattle.schedule.specs.Limits as limit
-use Rattle.schedule.specs.Language.{stepAt, size_of}
-use Rattle.schedule.specs.Counting.{countedOf}
-use Rattle.schedule.specs.Answers.{refusedAs, refusedFor, Leaves}
-use Rattle.schedule.specs.Running.{Counts, Runner, Runnable, Ended, restRun, restMade}
+use Rattle.schedule.specs.Language.{step_at, size_of}
+use Rattle.schedule.specs.Counting.{counted_of}
+use Rattle.schedule.specs.Answers.{refused_as, refused_for, Leaves}
+use Rattle.schedule.specs.Running.{Counts, Runner, Runnable, Ended, rest_run, rest_made}
 use Rattle.schedule.specs.declared.answer.Answer.{Answer}
 use Rattle.schedule.specs.declared.front.Fault.{Fault}
 use Rattle.schedule.specs.declared.count.Counted.{Counted}
 use Rattle.schedule.specs.declared.count.Counted.TheVariants.{Faulty, Steps}
 use Rattle.schedule.proofs.Languages.{Lawful}
-use Rattle.schedule.proofs.LoopSteps.{counted-formed}
+use Rattle.schedule.proofs.LoopSteps.{counted_formed}
 use Rattle.schedule.proofs.Rests as rests
 
 -- what a machine has of its own for the laws of a run: its language is lawful, a step logs little, an image is small, and an accepted step leads from a
@@ -43,16 +43,16 @@ pub record Carries (p : Runner) : Type 0 where
 module _ (p : Runner) (o : Carries p) (f : List ℕ) (from n : ℕ) (q₀ : p.machine.State) (log₀ : List ℕ) (used : ℕ) where
   abbrev pub Runs : List ℕ → p.machine.State → ℕ → ℕ → ℕ → Type 0
   Runs log q at k w =
-      Going p.machine (stepAt p.language) (size_of p.language) p.bytes limit.entry o.short p.Good o.kept f from 0 n q₀ log₀ used log q at k w
+      Going p.machine (step_at p.language) (size_of p.language) p.bytes limit.entry o.short p.Good o.kept f from 0 n q₀ log₀ used log q at k w
 
   pub starts : Runnable p f from n q₀ used (length log₀) → length f < 2 ^ 64 → Runs log₀ q₀ from 0 used
   starts r b =
       let z : n - 0 ≡ n = omega arith in
-      begins p.machine (stepAt p.language) (size_of p.language) p.bytes limit.entry o.short p.Good o.kept f from 0 n q₀ log₀ used
+      begins p.machine (step_at p.language) (size_of p.language) p.bytes limit.entry o.short p.Good o.kept f from 0 n q₀ log₀ used
       (omega arith) b r.safe (rw z r.formed) (rw z r.fits)
 
   abbrev whole : Left p.machine
-  whole = left p.bytes log₀ used (replay p.machine q₀ 0 (stepsFrom (stepAt p.language) (size_of p.language) f from (n - 0)))
+  whole = left p.bytes log₀ used (replay p.machine q₀ 0 (steps_from (step_at p.language) (size_of p.language) f from (n - 0)))
 
   left_ended : (e : Left p.machine) → whole ≡ e → Ended p f from n q₀ log₀ used e
   left_ended e q = let z : n - 0 ≡ n = omega arith in record { ended = sym (rw z at q) }
@@ -65,24 +65,24 @@ module _ (p : Runner) (o : Carries p) (f : List ℕ) (from n : ℕ) (q₀ : p.ma
     pub ends : k ≡ n → Out 0
     ends e =
         left_ended _
-        (going_end p.machine (stepAt p.language) (size_of p.language) p.bytes limit.entry o.short p.Good o.kept f from 0 n q₀ log₀ used log q at k w g e)
+        (going_end p.machine (step_at p.language) (size_of p.language) p.bytes limit.entry o.short p.Good o.kept f from 0 n q₀ log₀ used log q at k w g e)
 
-    module _ (h : k ≡ n → ⊥) (x : p.machine.Step) (r : x ≡ stepAt p.language f at) (v : p.machine.Step) (e : x ≡ v) where
+    module _ (h : k ≡ n → ⊥) (x : p.machine.Step) (r : x ≡ step_at p.language f at) (v : p.machine.Step) (e : x ≡ v) where
       -- the place after the step is in the file
       pub ahead : Fits w64 (at + size_of p.language v)
       ahead =
           rw e at
-          (going_next p.machine (stepAt p.language) (size_of p.language) p.bytes limit.entry o.short p.Good o.kept f from 0 n q₀ log₀ used log q at k w g h x r)
+          (going_next p.machine (step_at p.language) (size_of p.language) p.bytes limit.entry o.short p.Good o.kept f from 0 n q₀ log₀ used log q at k w g h x r)
 
       most : w + limit.entry ≤ length log
       most =
-          going-most p.machine (stepAt p.language) (size_of p.language) p.bytes limit.entry o.short p.Good o.kept f from 0 n q₀ log₀ used log q at k w g h x r
+          going_most p.machine (step_at p.language) (size_of p.language) p.bytes limit.entry o.short p.Good o.kept f from 0 n q₀ log₀ used log q at k w g h x r
 
       -- the step is refused
       pub stops : (c : ℕ) → c ≡ code_of p.machine q v → (c ≡ 0 → ⊥) → Out c
       stops c a z =
           left_ended _
-          (going-stop p.machine (stepAt p.language) (size_of p.language) p.bytes limit.entry o.short p.Good o.kept f from 0 n q₀ log₀ used log q at k w g h x r
+          (going_stop p.machine (step_at p.language) (size_of p.language) p.bytes limit.entry o.short p.Good o.kept f from 0 n q₀ log₀ used log q at k w g h x r
           c (rw e a) z)
 
       -- the step is accepted, and logs nothing, one entry, or some
@@ -90,7 +90,7 @@ module _ (p : Runner) (o : Carries p) (f : List ℕ) (from n : ℕ) (q₀ : p.ma
         goes : (log' : List ℕ) (w' : ℕ) → log' ≡ puts log w (pieces p.bytes (p.machine.logs q v)) → w' ≡ w + length (pieces p.bytes (p.machine.logs q v))
             → Runs log' q' (at + size_of p.language v) (k + 1) w'
         goes log' w' el ew =
-            going-turn p.machine (stepAt p.language) (size_of p.language) p.bytes limit.entry o.short p.Good o.kept f from 0 n q₀ log₀ used log q at k w g h x r
+            going_turn p.machine (step_at p.language) (size_of p.language) p.bytes limit.entry o.short p.Good o.kept f from 0 n q₀ log₀ used log q at k w g h x r
             (rw e z) q' log' (at + size_of p.language v) w' (rw e to) (rw e el) (rw e) (rw e ew)
 
         pub quiet : p.machine.logs q v ≡ [] → Runs log q' (at + size_of p.language v) (k + 1) w
@@ -99,7 +99,7 @@ module _ (p : Runner) (o : Carries p) (f : List ℕ) (from n : ℕ) (q₀ : p.ma
         pub loud : (w' : ℕ) (log' : List ℕ) → Laid log w (pieces p.bytes (p.machine.logs q v)) w' log'
             → Runs log' q' (at + size_of p.language v) (k + 1) w'
         loud w' log' d =
-            let laid = laid-whole log w (pieces p.bytes (p.machine.logs q v)) w' log' (omega (arith, most, o.short q v)) d in
+            let laid = laid_whole log w (pieces p.bytes (p.machine.logs q v)) w' log' (omega (arith, most, o.short q v)) d in
             goes log' w' laid.1 laid.0
 
         pub says : (y : p.machine.Entry) → p.machine.logs q v ≡ y ∷ [] → (w' : ℕ) (log' : List ℕ) → Laid log w (p.bytes y) w' log'
@@ -110,66 +110,66 @@ module _ (p : Runner) (o : Carries p) (f : List ℕ) (from n : ℕ) (q₀ : p.ma
 
       -- the same of a step whose record a transition moved
       module _ (a : ℕ) (t : p.machine.State) (d : Fair p.machine q v a t) where
-        pub fair-stops : (a ≡ 0 → ⊥) → Out a
-        fair-stops = stops a d.own
+        pub fair_stops : (a ≡ 0 → ⊥) → Out a
+        fair_stops = stops a d.own
 
         module _ (z : a ≡ 0) where
-          pub fair-quiet : p.machine.logs q v ≡ [] → Runs log t (at + size_of p.language v) (k + 1) w
-          fair-quiet = quiet (sym d.own ∙ z) t (d.went z)
+          pub fair_quiet : p.machine.logs q v ≡ [] → Runs log t (at + size_of p.language v) (k + 1) w
+          fair_quiet = quiet (sym d.own ∙ z) t (d.went z)
 
-          pub fair-loud : (w' : ℕ) (log' : List ℕ) → Laid log w (pieces p.bytes (p.machine.logs q v)) w' log'
+          pub fair_loud : (w' : ℕ) (log' : List ℕ) → Laid log w (pieces p.bytes (p.machine.logs q v)) w' log'
               → Runs log' t (at + size_of p.language v) (k + 1) w'
-          fair-loud = loud (sym d.own ∙ z) t (d.went z)
+          fair_loud = loud (sym d.own ∙ z) t (d.went z)
 
-          pub fair-says : (y : p.machine.Entry) → p.machine.logs q v ≡ y ∷ [] → (w' : ℕ) (log' : List ℕ) → Laid log w (p.bytes y) w' log'
+          pub fair_says : (y : p.machine.Entry) → p.machine.logs q v ≡ y ∷ [] → (w' : ℕ) (log' : List ℕ) → Laid log w (p.bytes y) w' log'
               → Runs log' t (at + size_of p.language v) (k + 1) w'
-          fair-says = says (sym d.own ∙ z) t (d.went z)
+          fair_says = says (sym d.own ∙ z) t (d.went z)
 
 -- ---------- the functions around the loop
 
 -- what was counted
-pub counts : (kind : ℕ) (f : List ℕ) (from : ℕ) (c : Counted) → c ≡ countedOf kind f from → (n : ℕ) → c ≡ Steps n → Counts kind f from n
+pub counts : (kind : ℕ) (f : List ℕ) (from : ℕ) (c : Counted) → c ≡ counted_of kind f from → (n : ℕ) → c ≡ Steps n → Counts kind f from n
 counts kind f from c p n e = sym p ∙ e
 
 -- n steps take no more room than a usize tells
 pub product : (kind : ℕ) (f : List ℕ) (from n : ℕ) → Counts kind f from n → Fits w64 (n * limit.entry)
-product kind f from n c = record { fits = omega (arith, rests.counted-few kind f from n c) }
+product kind f from n c = record { fits = omega (arith, rests.counted_few kind f from n c) }
 
 module _ (p : Runner) (o : Carries p) (s : p.machine.State) (f : List ℕ) (from : ℕ) (log image : List ℕ) where
   -- what is left is what the rest of the file comes to
   abbrev Rests : Answer → List ℕ → List ℕ → Type 0
-  Rests r log' image' = Leaves (restRun p s f from log image) r log' image'
+  Rests r log' image' = Leaves (rest_run p s f from log image) r log' image'
 
-  pub faulty-leaves : (c : Counted) → c ≡ countedOf p.language.kind f from → (x : Fault) → c ≡ Faulty x → (r : Answer)
-      → r ≡ refusedFor x → Rests r log image
-  faulty-leaves c q x e = rests.faulty-leaves p.machine p.language p.bytes p.image s f from log image x (sym q ∙ e)
+  pub faulty_leaves : (c : Counted) → c ≡ counted_of p.language.kind f from → (x : Fault) → c ≡ Faulty x → (r : Answer)
+      → r ≡ refused_for x → Rests r log image
+  faulty_leaves c q x e = rests.faulty_leaves p.machine p.language p.bytes p.image s f from log image x (sym q ∙ e)
 
   module _ (n : ℕ) (c : Counts p.language.kind f from n) where
     pub runnable : p.Good s → n * limit.entry ≤ length log → Runnable p f from n s 0 (length log)
-    runnable g h = record { formed = counted-formed p.language o.lawful f from n c; safe = g; fits = omega (arith, h) }
+    runnable g h = record { formed = counted_formed p.language o.lawful f from n c; safe = g; fits = omega (arith, h) }
 
-    pub log-short : length log < n * limit.entry → (r : Answer) → r ≡ refusedAs code.room 0 → Rests r log image
-    log-short = rests.log-short p.machine p.language p.bytes p.image s f from log image o.lawful n c
+    pub log_short : length log < n * limit.entry → (r : Answer) → r ≡ refused_as code.room 0 → Rests r log image
+    log_short = rests.log_short p.machine p.language p.bytes p.image s f from log image o.lawful n c
 
     module _ (h : n * limit.entry ≤ length log) where
-      pub image-short : length image < limit.image → (r : Answer) → r ≡ refusedAs code.room 0 → Rests r log image
-      image-short = rests.image-short p.machine p.language p.bytes p.image s f from log image o.lawful n c h
+      pub image_short : length image < limit.image → (r : Answer) → r ≡ refused_as code.room 0 → Rests r log image
+      image_short = rests.image_short p.machine p.language p.bytes p.image s f from log image o.lawful n c h
 
       -- both buffers are long enough: the run's log, and the image of the state that it left
-      pub ran-leaves : limit.image ≤ length image → (e : Left p.machine) → Ended p f from n s log 0 e → (k : ℕ) (image' : List ℕ)
+      pub ran_leaves : limit.image ≤ length image → (e : Left p.machine) → Ended p f from n s log 0 e → (k : ℕ) (image' : List ℕ)
           → Laid image 0 (p.image e.state) k image' → Rests (record { place = e.place; logged = e.upto; imaged = k; code = e.code }) e.log image'
-      ran-leaves i e d k image' w =
-          let a : Replayed p.machine = replay p.machine s 0 (stepsFrom (stepAt p.language) (size_of p.language) f from n) in
+      ran_leaves i e d k image' w =
+          let a : Replayed p.machine = replay p.machine s 0 (steps_from (step_at p.language) (size_of p.language) f from n) in
           let b : e ≡ left p.bytes log 0 a = d.ended in
           rw (b, zero-add)
-          (rests.ran-leaves p.machine p.language p.bytes p.image s f from log image o.lawful n c h i o.short (o.small a.state) _ refl k image' (rw b at w))
+          (rests.ran_leaves p.machine p.language p.bytes p.image s f from log image o.lawful n c h i o.short (o.small a.state) _ refl k image' (rw b at w))
 
 -- ---------- with parameters
 
 module _ (p : Runner) (c : ℕ) (s : p.machine.State) (f : List ℕ) (from : ℕ) (log image : List ℕ) where
-  pub bad-leaves : (c ≡ 0 → ⊥) → (r : Answer) → r ≡ refusedAs c 0 → Leaves (restMade p c s f from log image) r log image
-  bad-leaves n r q = rw (ne_eqb c 0 n) (record { answer = q; log = refl; image = refl })
+  pub bad_leaves : (c ≡ 0 → ⊥) → (r : Answer) → r ≡ refused_as c 0 → Leaves (rest_made p c s f from log image) r log image
+  bad_leaves n r q = rw (ne_eqb c 0 n) (record { answer = q; log = refl; image = refl })
 
-  pub made-leaves : c ≡ 0 → (r : Answer) (log' image' : List ℕ) → Leaves (restRun p s f from log image) r log' image'
-      → Leaves (restMade p c s f from log image) r log' image'
-  made-leaves z r log' image' d = rw (eq-eqb c 0 z) d
+  pub made_leaves : c ≡ 0 → (r : Answer) (log' image' : List ℕ) → Leaves (rest_run p s f from log image) r log' image'
+      → Leaves (rest_made p c s f from log image) r log' image'
+  made_leaves z r log' image' d = rw (eq-eqb c 0 z) d

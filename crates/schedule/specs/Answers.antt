@@ -4,17 +4,17 @@ use Rattle.machine.specs.Machine.{Machine}
 use Rattle.machine.specs.Rest.{Rested, untouched, rest_of}
 use Rattle.machine.specs.Codes as code
 use Rattle.schedule.specs.Limits as limit
-use Rattle.schedule.specs.Language.{Language, stepAt}
-use Rattle.schedule.specs.Reading.{Placed, broken, surplus, placed, placesFrom}
-use Rattle.schedule.specs.Front.{faultCode, faultPlace}
+use Rattle.schedule.specs.Language.{Language, step_at}
+use Rattle.schedule.specs.Reading.{Placed, broken, surplus, placed, places_from}
+use Rattle.schedule.specs.Front.{fault_code, fault_place}
 use Rattle.schedule.specs.declared.answer.Answer.{Answer}
 use Rattle.schedule.specs.declared.front.Fault.{Fault}
 
-abbrev pub refusedAs : ℕ → ℕ → Answer
-refusedAs c place = record { place = place; logged = 0; imaged = 0; code = c }
+abbrev pub refused_as : ℕ → ℕ → Answer
+refused_as c place = record { place = place; logged = 0; imaged = 0; code = c }
 
-abbrev pub refusedFor : Fault → Answer
-refusedFor x = refusedAs (faultCode x) (faultPlace x)
+abbrev pub refused_for : Fault → Answer
+refused_for x = refused_as (fault_code x) (fault_place x)
 
 abbrev pub answer_of : Rested → Answer
 answer_of o = record { place = o.place; logged = o.logged; imaged = o.imaged; code = o.code }
@@ -27,10 +27,10 @@ pub record Leaves (o : Rested) (r : Answer) (log' image' : List ℕ) : Type 0 wh
 
 -- the steps of a language from a place of the file on: code 6, code 7, or their replay
 module _ (m : Machine) (l : Language m.Step) (bytes : m.Entry → List ℕ) (image_of : m.State → List ℕ) where
-  abbrev pub restPlaced : m.State → List ℕ → List ℕ → List ℕ → Placed → Rested
-  restPlaced s f log image (broken k) = untouched code.malformed k log image
-  restPlaced s f log image surplus = untouched code.surplus limit.steps log image
-  restPlaced s f log image (placed ps) = rest_of m bytes image_of limit.entry limit.image s (map (stepAt l f) ps) log image
+  abbrev pub rest_placed : m.State → List ℕ → List ℕ → List ℕ → Placed → Rested
+  rest_placed s f log image (broken k) = untouched code.malformed k log image
+  rest_placed s f log image surplus = untouched code.surplus limit.steps log image
+  rest_placed s f log image (placed ps) = rest_of m bytes image_of limit.entry limit.image s (map (step_at l f) ps) log image
 
-  unfoldable pub restFrom : m.State → List ℕ → ℕ → List ℕ → List ℕ → Rested
-  restFrom s f from log image = restPlaced s f log image (placesFrom l.kind limit.steps f from 0)
+  unfoldable pub rest_from : m.State → List ℕ → ℕ → List ℕ → List ℕ → Rested
+  rest_from s f from log image = rest_placed s f log image (places_from l.kind limit.steps f from 0)

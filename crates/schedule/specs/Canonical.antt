@@ -27,11 +27,11 @@ pub record FileOf (f : List ℕ) (s : Schedule) : Type 0 where
 -- f has exactly one fault, or is the file of exactly one schedule
 pub record Sorted (f : List ℕ) : Type 0 where
   pub either : ((x : Fault) × HasFault f x) ⊎ ((s : Schedule) × FileOf f s)
-  pub one-fault : (x y : Fault) → HasFault f x → HasFault f y → x ≡ y
-  pub one-schedule : (s t : Schedule) → FileOf f s → FileOf f t → s ≡ t
+  pub one_fault : (x y : Fault) → HasFault f x → HasFault f y → x ≡ y
+  pub one_schedule : (s t : Schedule) → FileOf f s → FileOf f t → s ≡ t
   pub never_both : (x : Fault) (s : Schedule) → HasFault f x → FileOf f s → ⊥
   -- and as many whole steps stand in f as the schedule has
-  pub whole-steps : (s : Schedule) → FileOf f s → WellFormed f (steps# s)
+  pub whole_steps : (s : Schedule) → FileOf f s → WellFormed f (steps# s)
 
 abbrev pub AllSorted : Type 0
 AllSorted = (f : List ℕ) → Bytes f → Sorted f

@@ -11,56 +11,56 @@ use Rattle.schedule.specs.declared.front.Opened.{Opened}
 use Rattle.schedule.specs.declared.front.Opened.TheVariants.{Faulty, Open}
 
 -- the scope's number and place of each fault
-abbrev pub faultCode : Fault → ℕ
-faultCode Length = code.wrongLength
-faultCode Version = code.version
-faultCode Body = code.body
-faultCode Kind = code.kind
-faultCode Parameter = code.parameter
-faultCode (Step k) = code.malformed
-faultCode Surplus = code.surplus
+abbrev pub fault_code : Fault → ℕ
+fault_code Length = code.wrong_length
+fault_code Version = code.version
+fault_code Body = code.body
+fault_code Kind = code.kind
+fault_code Parameter = code.parameter
+fault_code (Step k) = code.malformed
+fault_code Surplus = code.surplus
 
-abbrev pub faultPlace : Fault → ℕ
-faultPlace Length = 0
-faultPlace Version = 0
-faultPlace Body = 0
-faultPlace Kind = 0
-faultPlace Parameter = 0
-faultPlace (Step k) = k
-faultPlace Surplus = limit.steps
+abbrev pub fault_place : Fault → ℕ
+fault_place Length = 0
+fault_place Version = 0
+fault_place Body = 0
+fault_place Kind = 0
+fault_place Parameter = 0
+fault_place (Step k) = k
+fault_place Surplus = limit.steps
 
 -- a fault is given exactly when its test says so, and else the tests go on
 abbrev pub given : Fault → Bool → Opened → Opened
 given fault wrong more = cond wrong (Faulty fault) more
 
 -- the parameters of each kind, behind the kind's byte at place 3
-abbrev pub flatFront : List ℕ → Opened
-flatFront f =
+abbrev pub flat_front : List ℕ → Opened
+flat_front f =
     given Parameter (ltb (length f) 5)
     (given Parameter (ltb limit.clients (get_or f 4 0))
     (Open (Params.TheVariants.Flat (get_or f 4 0)) 5))
 
-abbrev pub lockFront : List ℕ → Opened
-lockFront f =
+abbrev pub lock_front : List ℕ → Opened
+lock_front f =
     given Parameter (ltb (length f) 9)
     (given Parameter (eqb (get_or f 4 0) 0)
     (given Parameter (ltb limit.width (get_or f 4 0))
     (Open (Params.TheVariants.Lock (get_or f 4 0) (number_at f 5 4)) 9)))
 
-abbrev pub flagFront : List ℕ → Opened
-flagFront f =
+abbrev pub flag_front : List ℕ → Opened
+flag_front f =
     given Parameter (ltb (length f) 6)
     (given Parameter (eqb (get_or f 4 0) 0)
     (given Parameter (ltb limit.threads (get_or f 4 0))
     (given Parameter (ltb 1 (get_or f 5 0))
     (Open (Params.TheVariants.Flag (get_or f 4 0) (eqb (get_or f 5 0) 1)) 6))))
 
-abbrev pub kindFront : ℕ → List ℕ → Opened
-kindFront k f =
-    cond (eqb k flat) (flatFront f)
-    (cond (eqb k lock) (lockFront f)
+abbrev pub kind_front : ℕ → List ℕ → Opened
+kind_front k f =
+    cond (eqb k flat) (flat_front f)
+    (cond (eqb k lock) (lock_front f)
     (cond (eqb k counting) (Open Params.TheVariants.Counting 4)
-    (cond (eqb k flag) (flagFront f)
+    (cond (eqb k flag) (flag_front f)
     (Faulty Kind))))
 
 -- byte 0 is the version; bytes 1 and 2 are the body's length, which must be that of what follows; byte 3 is the kind
@@ -70,4 +70,4 @@ opened_of f =
     (given Length (not (eqb (number_at f 1 2) (length f - 3)))
     (given Version (not (eqb (get_or f 0 0) 1))
     (given Body (ltb limit.body (length f - 3))
-    (kindFront (get_or f 3 0) f))))
+    (kind_front (get_or f 3 0) f))))

@@ -45,10 +45,10 @@ pub record UnknownKind (f : List ℕ) : Type 0 where
 
 -- the parameters of the file's kind are there and in their limits, and its steps begin at this place
 pub data Ready (f : List ℕ) : ℕ → Type 0 where
-  flatReady : get_or f 3 0 ≡ kind.flat → 5 ≤ length f → get_or f 4 0 ≤ limit.clients → Ready f 5
-  lockReady : get_or f 3 0 ≡ kind.lock → 9 ≤ length f → 1 ≤ get_or f 4 0 → get_or f 4 0 ≤ limit.width → Ready f 9
-  countingReady : get_or f 3 0 ≡ kind.counting → Ready f 4
-  flagReady : get_or f 3 0 ≡ kind.flag → 6 ≤ length f → 1 ≤ get_or f 4 0 → get_or f 4 0 ≤ limit.threads → get_or f 5 0 ≤ 1 → Ready f 6
+  flat_ready : get_or f 3 0 ≡ kind.flat → 5 ≤ length f → get_or f 4 0 ≤ limit.clients → Ready f 5
+  lock_ready : get_or f 3 0 ≡ kind.lock → 9 ≤ length f → 1 ≤ get_or f 4 0 → get_or f 4 0 ≤ limit.width → Ready f 9
+  counting_ready : get_or f 3 0 ≡ kind.counting → Ready f 4
+  flag_ready : get_or f 3 0 ≡ kind.flag → 6 ≤ length f → 1 ≤ get_or f 4 0 → get_or f 4 0 ≤ limit.threads → get_or f 5 0 ≤ 1 → Ready f 6
 
 -- 5: parameter missing or outside its limits
 pub record WrongParameter (f : List ℕ) : Type 0 where
@@ -119,7 +119,7 @@ Reader = List ℕ → Decoded
 
 -- a reader gives each fault exactly when the file has it, and a schedule exactly where the file is well formed, with as many steps
 pub record FaultsGiven (D : Reader) (f : List ℕ) : Type 0 where
-  pub faulty-has : (x : Fault) → D f ≡ faulty x → HasFault f x
-  pub has-faulty : (x : Fault) → HasFault f x → D f ≡ faulty x
-  pub good-formed : (s : Schedule) → D f ≡ good s → WellFormed f (steps# s)
-  pub formed-good : (n : ℕ) → WellFormed f n → (s : Schedule) × (D f ≡ good s)
+  pub faulty_has : (x : Fault) → D f ≡ faulty x → HasFault f x
+  pub has_faulty : (x : Fault) → HasFault f x → D f ≡ faulty x
+  pub good_formed : (s : Schedule) → D f ≡ good s → WellFormed f (steps# s)
+  pub formed_good : (n : ℕ) → WellFormed f n → (s : Schedule) × (D f ≡ good s)

@@ -5,8 +5,8 @@ use Rattle.schedule.specs.declared.lengths.Measured.{Measured}
 use Rattle.schedule.specs.declared.lengths.Measured.TheVariants.{End, Broken, Whole}
 
 -- a step is broken whose length is 0, reaches past the file's end, or is not its tag's (no tag that is unknown has a length)
-unfoldable pub measuredAt : ℕ → List ℕ → ℕ → Measured
-measuredAt kind f at =
+unfoldable pub measured_at : ℕ → List ℕ → ℕ → Measured
+measured_at kind f at =
     cond (leb (length f) at) End
     (cond (eqb (get_or f at 0) 0) Broken
     (cond (ltb (length f) (at + 1 + get_or f at 0)) Broken
@@ -23,12 +23,12 @@ and at (broken k) = broken k
 and at surplus = surplus
 and at (placed ps) = placed (at ∷ ps)
 
-abbrev pub byMeasure : (ℕ → Placed) → ℕ → ℕ → Measured → Placed
-byMeasure go at k End = placed []
-byMeasure go at k Broken = broken k
-byMeasure go at k (Whole next) = and at (go next)
+abbrev pub by_measure : (ℕ → Placed) → ℕ → ℕ → Measured → Placed
+by_measure go at k End = placed []
+by_measure go at k Broken = broken k
+by_measure go at k (Whole next) = and at (go next)
 
 -- at most n more steps from `at` on, the first of them number k
-unfoldable pub placesFrom : ℕ → ℕ → List ℕ → ℕ → ℕ → Placed
-placesFrom kind zero f at k = cond (ltb at (length f)) surplus (placed [])
-placesFrom kind (suc n) f at k = byMeasure (λ next. placesFrom kind n f next (k + 1)) at k (measuredAt kind f at)
+unfoldable pub places_from : ℕ → ℕ → List ℕ → ℕ → ℕ → Placed
+places_from kind zero f at k = cond (ltb at (length f)) surplus (placed [])
+places_from kind (suc n) f at k = by_measure (λ next. places_from kind n f next (k + 1)) at k (measured_at kind f at)

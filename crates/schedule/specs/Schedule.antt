@@ -5,9 +5,9 @@ use Rattle.rows.specs.Bytes.{big}
 use Rattle.rows.specs.Walk.{pieces}
 use Rattle.schedule.specs.Limits as limit
 use Rattle.schedule.specs.Widths as kind
-use Rattle.schedule.specs.Language.{Language, stepAt, stepBytes, Writable}
+use Rattle.schedule.specs.Language.{Language, step_at, step_bytes, Writable}
 use Rattle.schedule.specs.Spelling.{flat, lock, counting, flag}
-use Rattle.schedule.specs.Reading.{Placed, broken, surplus, placed, placesFrom}
+use Rattle.schedule.specs.Reading.{Placed, broken, surplus, placed, places_from}
 use Rattle.schedule.specs.Front.{opened_of}
 use Rattle.schedule.specs.declared.steps.FlatStep.{FlatStep}
 use Rattle.schedule.specs.declared.steps.LockStep.{LockStep}
@@ -22,10 +22,10 @@ use Rattle.schedule.specs.declared.front.Opened.TheVariants.{Faulty, Open}
 
 -- a kind with its parameters, and the steps
 pub data Schedule : Type 0 where
-  ofFlat : ℕ → List FlatStep → Schedule
-  ofLock : ℕ → ℕ → List LockStep → Schedule
-  ofCounting : List CountingStep → Schedule
-  ofFlag : ℕ → Bool → List FlagStep → Schedule
+  of_flat : ℕ → List FlatStep → Schedule
+  of_lock : ℕ → ℕ → List LockStep → Schedule
+  of_counting : List CountingStep → Schedule
+  of_flag : ℕ → Bool → List FlagStep → Schedule
 
 pub data Decoded : Type 0 where
   faulty : Fault → Decoded
@@ -34,55 +34,55 @@ pub data Decoded : Type 0 where
 -- ---------- from the file to the schedule
 
 -- the schedule that the steps of a language at their places make
-abbrev pub withSteps : {S : Type 0} → Language S → List ℕ → (List S → Schedule) → Placed → Decoded
-withSteps l f make (broken k) = faulty (Step k)
-withSteps l f make surplus = faulty Surplus
-withSteps l f make (placed ps) = good (make (map (stepAt l f) ps))
+abbrev pub with_steps : {S : Type 0} → Language S → List ℕ → (List S → Schedule) → Placed → Decoded
+with_steps l f make (broken k) = faulty (Step k)
+with_steps l f make surplus = faulty Surplus
+with_steps l f make (placed ps) = good (make (map (step_at l f) ps))
 
-abbrev pub behindFront : List ℕ → Opened → Decoded
-behindFront f (Faulty fault) = faulty fault
-behindFront f (Open (Flat n) at) = withSteps flat f (ofFlat n) (placesFrom kind.flat limit.steps f at 0)
-behindFront f (Open (Lock n t) at) = withSteps lock f (ofLock n t) (placesFrom kind.lock limit.steps f at 0)
-behindFront f (Open Counting at) = withSteps counting f ofCounting (placesFrom kind.counting limit.steps f at 0)
-behindFront f (Open (Flag n v) at) = withSteps flag f (ofFlag n v) (placesFrom kind.flag limit.steps f at 0)
+abbrev pub behind_front : List ℕ → Opened → Decoded
+behind_front f (Faulty fault) = faulty fault
+behind_front f (Open (Flat n) at) = with_steps flat f (of_flat n) (places_from kind.flat limit.steps f at 0)
+behind_front f (Open (Lock n t) at) = with_steps lock f (of_lock n t) (places_from kind.lock limit.steps f at 0)
+behind_front f (Open Counting at) = with_steps counting f of_counting (places_from kind.counting limit.steps f at 0)
+behind_front f (Open (Flag n v) at) = with_steps flag f (of_flag n v) (places_from kind.flag limit.steps f at 0)
 
 -- any list of bytes is a schedule, or has exactly one fault
 unfoldable pub decode : List ℕ → Decoded
-decode f = behindFront f (opened_of f)
+decode f = behind_front f (opened_of f)
 
 -- ---------- from the schedule to the file
 
-abbrev pub stepsBytes : {S : Type 0} → Language S → List S → List ℕ
-stepsBytes l xs = pieces (stepBytes l) xs
+abbrev pub steps_bytes : {S : Type 0} → Language S → List S → List ℕ
+steps_bytes l xs = pieces (step_bytes l) xs
 
 -- the parameters of a schedule, how many steps it has, and their bytes
-abbrev pub paramsIn : Schedule → Params
-paramsIn (ofFlat n xs) = Flat n
-paramsIn (ofLock n t xs) = Lock n t
-paramsIn (ofCounting xs) = Counting
-paramsIn (ofFlag n v xs) = Flag n v
+abbrev pub params_in : Schedule → Params
+params_in (of_flat n xs) = Flat n
+params_in (of_lock n t xs) = Lock n t
+params_in (of_counting xs) = Counting
+params_in (of_flag n v xs) = Flag n v
 
 abbrev pub steps# : Schedule → ℕ
-steps# (ofFlat n xs) = length xs
-steps# (ofLock n t xs) = length xs
-steps# (ofCounting xs) = length xs
-steps# (ofFlag n v xs) = length xs
+steps# (of_flat n xs) = length xs
+steps# (of_lock n t xs) = length xs
+steps# (of_counting xs) = length xs
+steps# (of_flag n v xs) = length xs
 
-abbrev pub allSteps : Schedule → List ℕ
-allSteps (ofFlat n xs) = stepsBytes flat xs
-allSteps (ofLock n t xs) = stepsBytes lock xs
-allSteps (ofCounting xs) = stepsBytes counting xs
-allSteps (ofFlag n v xs) = stepsBytes flag xs
+abbrev pub all_steps : Schedule → List ℕ
+all_steps (of_flat n xs) = steps_bytes flat xs
+all_steps (of_lock n t xs) = steps_bytes lock xs
+all_steps (of_counting xs) = steps_bytes counting xs
+all_steps (of_flag n v xs) = steps_bytes flag xs
 
 -- a kind's byte and its parameters, with which a body begins
-abbrev pub frontBytes : Params → List ℕ
-frontBytes (Flat n) = kind.flat ∷ n ∷ []
-frontBytes (Lock n t) = kind.lock ∷ n ∷ big 4 t
-frontBytes Counting = kind.counting ∷ []
-frontBytes (Flag n v) = kind.flag ∷ n ∷ bool_byte v ∷ []
+abbrev pub front_bytes : Params → List ℕ
+front_bytes (Flat n) = kind.flat ∷ n ∷ []
+front_bytes (Lock n t) = kind.lock ∷ n ∷ big 4 t
+front_bytes Counting = kind.counting ∷ []
+front_bytes (Flag n v) = kind.flag ∷ n ∷ bool_byte v ∷ []
 
 abbrev pub body : Schedule → List ℕ
-body s = frontBytes (paramsIn s) ++ allSteps s
+body s = front_bytes (params_in s) ++ all_steps s
 
 unfoldable pub encode : Schedule → List ℕ
 encode s = 1 ∷ (big 2 (length (body s)) ++ body s)
@@ -95,10 +95,10 @@ StepsFit l [] = Unit {0}
 StepsFit l (x ∷ xs) = Writable l x × StepsFit l xs
 
 abbrev pub AllFit : Schedule → Type 0
-AllFit (ofFlat n xs) = StepsFit flat xs
-AllFit (ofLock n t xs) = StepsFit lock xs
-AllFit (ofCounting xs) = StepsFit counting xs
-AllFit (ofFlag n v xs) = StepsFit flag xs
+AllFit (of_flat n xs) = StepsFit flat xs
+AllFit (of_lock n t xs) = StepsFit lock xs
+AllFit (of_counting xs) = StepsFit counting xs
+AllFit (of_flag n v xs) = StepsFit flag xs
 
 -- parameters that a file may have
 abbrev pub Allowed : Params → Type 0
@@ -109,6 +109,6 @@ Allowed (Flag n v) = (1 ≤ n) × (n ≤ limit.threads)
 
 -- parameters and step count in their limits, and all numbers fit
 pub record InLimits (s : Schedule) : Type 0 where
-  pub allowed : Allowed (paramsIn s)
+  pub allowed : Allowed (params_in s)
   pub few : steps# s ≤ limit.steps
   pub fit : AllFit s

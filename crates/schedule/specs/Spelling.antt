@@ -14,28 +14,28 @@ use Rattle.schedule.specs.declared.steps.FlagStep.TheVariants.{Begin, Move, Read
 -- A tag that no step has makes a step all the same, so that reading is total; such bytes are refused before they are read (specs/Reading.antt).
 
 -- kind 1
-abbrev pub flatTag : FlatStep → ℕ
-flatTag (ClientSend j rid req) = 1
-flatTag (ClientRecv j) = 2
-flatTag CombinerRecv = 3
-flatTag CombinerSkip = 4
-flatTag CombinerGoToResponding = 5
-flatTag (CombinerSend rid resp) = 6
-flatTag CombinerSendSkip = 7
-flatTag CombinerGoToCollecting = 8
+abbrev pub flat_tag : FlatStep → ℕ
+flat_tag (ClientSend j rid req) = 1
+flat_tag (ClientRecv j) = 2
+flat_tag CombinerRecv = 3
+flat_tag CombinerSkip = 4
+flat_tag CombinerGoToResponding = 5
+flat_tag (CombinerSend rid resp) = 6
+flat_tag CombinerSendSkip = 7
+flat_tag CombinerGoToCollecting = 8
 
-abbrev pub flatNumbers : FlatStep → List ℕ
-flatNumbers (ClientSend j rid req) = j ∷ rid ∷ req ∷ []
-flatNumbers (ClientRecv j) = j ∷ []
-flatNumbers CombinerRecv = []
-flatNumbers CombinerSkip = []
-flatNumbers CombinerGoToResponding = []
-flatNumbers (CombinerSend rid resp) = rid ∷ resp ∷ []
-flatNumbers CombinerSendSkip = []
-flatNumbers CombinerGoToCollecting = []
+abbrev pub flat_numbers : FlatStep → List ℕ
+flat_numbers (ClientSend j rid req) = j ∷ rid ∷ req ∷ []
+flat_numbers (ClientRecv j) = j ∷ []
+flat_numbers CombinerRecv = []
+flat_numbers CombinerSkip = []
+flat_numbers CombinerGoToResponding = []
+flat_numbers (CombinerSend rid resp) = rid ∷ resp ∷ []
+flat_numbers CombinerSendSkip = []
+flat_numbers CombinerGoToCollecting = []
 
-abbrev pub flatStep : ℕ → List ℕ → FlatStep
-flatStep t ns =
+abbrev pub flat_step : ℕ → List ℕ → FlatStep
+flat_step t ns =
     cond (eqb t 1) (ClientSend (get_or ns 0 0) (get_or ns 1 0) (get_or ns 2 0))
     (cond (eqb t 2) (ClientRecv (get_or ns 0 0))
     (cond (eqb t 3) CombinerRecv
@@ -46,29 +46,29 @@ flatStep t ns =
     CombinerGoToCollecting))))))
 
 abbrev pub flat : Language FlatStep
-flat = record { kind = kinds.flat; tag = flatTag; numbers = flatNumbers; step = flatStep }
+flat = record { kind = kinds.flat; tag = flat_tag; numbers = flat_numbers; step = flat_step }
 
 -- kind 2
-abbrev pub lockTag : LockStep → ℕ
-lockTag ExcStart = 1
-lockTag ExcCheckCount = 2
-lockTag ExcFinish = 3
-lockTag (ExcRelease t) = 4
-lockTag (SharedStart r) = 5
-lockTag (SharedFinish r) = 6
-lockTag (SharedRelease r t) = 7
+abbrev pub lock_tag : LockStep → ℕ
+lock_tag ExcStart = 1
+lock_tag ExcCheckCount = 2
+lock_tag ExcFinish = 3
+lock_tag (ExcRelease t) = 4
+lock_tag (SharedStart r) = 5
+lock_tag (SharedFinish r) = 6
+lock_tag (SharedRelease r t) = 7
 
-abbrev pub lockNumbers : LockStep → List ℕ
-lockNumbers ExcStart = []
-lockNumbers ExcCheckCount = []
-lockNumbers ExcFinish = []
-lockNumbers (ExcRelease t) = t ∷ []
-lockNumbers (SharedStart r) = r ∷ []
-lockNumbers (SharedFinish r) = r ∷ []
-lockNumbers (SharedRelease r t) = r ∷ t ∷ []
+abbrev pub lock_numbers : LockStep → List ℕ
+lock_numbers ExcStart = []
+lock_numbers ExcCheckCount = []
+lock_numbers ExcFinish = []
+lock_numbers (ExcRelease t) = t ∷ []
+lock_numbers (SharedStart r) = r ∷ []
+lock_numbers (SharedFinish r) = r ∷ []
+lock_numbers (SharedRelease r t) = r ∷ t ∷ []
 
-abbrev pub lockStep : ℕ → List ℕ → LockStep
-lockStep t ns =
+abbrev pub lock_step : ℕ → List ℕ → LockStep
+lock_step t ns =
     cond (eqb t 2) ExcCheckCount
     (cond (eqb t 3) ExcFinish
     (cond (eqb t 4) (ExcRelease (get_or ns 0 0))
@@ -78,48 +78,48 @@ lockStep t ns =
     ExcStart)))))
 
 abbrev pub lock : Language LockStep
-lock = record { kind = kinds.lock; tag = lockTag; numbers = lockNumbers; step = lockStep }
+lock = record { kind = kinds.lock; tag = lock_tag; numbers = lock_numbers; step = lock_step }
 
 -- kind 3
-abbrev pub countingTag : CountingStep → ℕ
-countingTag (WriteableToReadable t) = 1
-countingTag ReadableToWriteable = 2
-countingTag NewRef = 3
-countingTag (DeleteRef t) = 4
+abbrev pub counting_tag : CountingStep → ℕ
+counting_tag (WriteableToReadable t) = 1
+counting_tag ReadableToWriteable = 2
+counting_tag NewRef = 3
+counting_tag (DeleteRef t) = 4
 
-abbrev pub countingNumbers : CountingStep → List ℕ
-countingNumbers (WriteableToReadable t) = t ∷ []
-countingNumbers ReadableToWriteable = []
-countingNumbers NewRef = []
-countingNumbers (DeleteRef t) = t ∷ []
+abbrev pub counting_numbers : CountingStep → List ℕ
+counting_numbers (WriteableToReadable t) = t ∷ []
+counting_numbers ReadableToWriteable = []
+counting_numbers NewRef = []
+counting_numbers (DeleteRef t) = t ∷ []
 
-abbrev pub countingStep : ℕ → List ℕ → CountingStep
-countingStep t ns =
+abbrev pub counting_step : ℕ → List ℕ → CountingStep
+counting_step t ns =
     cond (eqb t 1) (WriteableToReadable (get_or ns 0 0))
     (cond (eqb t 2) ReadableToWriteable
     (cond (eqb t 4) (DeleteRef (get_or ns 0 0))
     NewRef))
 
 abbrev pub counting : Language CountingStep
-counting = record { kind = kinds.counting; tag = countingTag; numbers = countingNumbers; step = countingStep }
+counting = record { kind = kinds.counting; tag = counting_tag; numbers = counting_numbers; step = counting_step }
 
 -- kind 4
-abbrev pub flagTag : FlagStep → ℕ
-flagTag (Begin k) = 1
-flagTag (Move k) = 2
-flagTag (Read k) = 3
+abbrev pub flag_tag : FlagStep → ℕ
+flag_tag (Begin k) = 1
+flag_tag (Move k) = 2
+flag_tag (Read k) = 3
 
-abbrev pub flagNumbers : FlagStep → List ℕ
-flagNumbers (Begin k) = k ∷ []
-flagNumbers (Move k) = k ∷ []
-flagNumbers (Read k) = k ∷ []
+abbrev pub flag_numbers : FlagStep → List ℕ
+flag_numbers (Begin k) = k ∷ []
+flag_numbers (Move k) = k ∷ []
+flag_numbers (Read k) = k ∷ []
 
-abbrev pub flagStep : ℕ → List ℕ → FlagStep
-flagStep t ns =
+abbrev pub flag_step : ℕ → List ℕ → FlagStep
+flag_step t ns =
     cond (eqb t 1) (Begin (get_or ns 0 0))
     (cond (eqb t 2) (Move (get_or ns 0 0))
     (cond (eqb t 3) (Read (get_or ns 0 0))
     (Begin 0)))
 
 abbrev pub flag : Language FlagStep
-flag = record { kind = kinds.flag; tag = flagTag; numbers = flagNumbers; step = flagStep }
+flag = record { kind = kinds.flag; tag = flag_tag; numbers = flag_numbers; step = flag_step }

@@ -26,8 +26,8 @@ abbrev pub flag : ℕ
 flag = 4
 
 -- the steps of each kind by tag; tag 0 is no step, and what is no step has no widths
-abbrev pub flatWidths : List (List ℕ)
-flatWidths =
+abbrev pub flat_widths : List (List ℕ)
+flat_widths =
     []
     ∷ (tag ∷ who ∷ what ∷ what ∷ [])  -- client_send j rid req
     ∷ (tag ∷ who ∷ [])  -- client_recv j
@@ -39,8 +39,8 @@ flatWidths =
     ∷ (tag ∷ [])  -- combiner_go_to_collecting
     ∷ []
 
-abbrev pub lockWidths : List (List ℕ)
-lockWidths =
+abbrev pub lock_widths : List (List ℕ)
+lock_widths =
     []
     ∷ (tag ∷ [])  -- exc_start
     ∷ (tag ∷ [])  -- exc_check_count
@@ -51,8 +51,8 @@ lockWidths =
     ∷ (tag ∷ who ∷ what ∷ [])  -- shared_release r t
     ∷ []
 
-abbrev pub countingWidths : List (List ℕ)
-countingWidths =
+abbrev pub counting_widths : List (List ℕ)
+counting_widths =
     []
     ∷ (tag ∷ what ∷ [])  -- writeable_to_readable t
     ∷ (tag ∷ [])  -- readable_to_writeable
@@ -60,8 +60,8 @@ countingWidths =
     ∷ (tag ∷ what ∷ [])  -- delete_ref t
     ∷ []
 
-abbrev pub flagWidths : List (List ℕ)
-flagWidths =
+abbrev pub flag_widths : List (List ℕ)
+flag_widths =
     []
     ∷ (tag ∷ who ∷ [])  -- begin k
     ∷ (tag ∷ who ∷ [])  -- move k
@@ -70,15 +70,15 @@ flagWidths =
 
 -- the kinds by number; there is no kind 0
 unfoldable pub widths : List (List (List ℕ))
-widths = [] ∷ flatWidths ∷ lockWidths ∷ countingWidths ∷ flagWidths ∷ []
+widths = [] ∷ flat_widths ∷ lock_widths ∷ counting_widths ∷ flag_widths ∷ []
 
-unfoldable pub widthsOf : ℕ → ℕ → List ℕ
+unfoldable pub widths_of : ℕ → ℕ → List ℕ
 unfolding widths
-widthsOf kind t = get_or (get_or widths kind []) t []
+widths_of kind t = get_or (get_or widths kind []) t []
 
 -- a step's length: one byte for the tag plus the sizes of the step's numbers, and 0 for what is no step
 abbrev pub length_of : ℕ → ℕ → ℕ
-length_of kind t = sum (λ w. w) (widthsOf kind t)
+length_of kind t = sum (λ w. w) (widths_of kind t)
 
 -- how many kinds and tags there are, both counted from 0 on: no kind has a tag past the last
 abbrev pub kinds : ℕ
@@ -92,5 +92,5 @@ pub record RowOf (kind : ℕ) (row : List ℕ) : Type 0 where
   pub at : (t : ℕ) → t < tags → get_or row t 0 ≡ length_of kind t
 
 -- the widths of a step's numbers, those behind its tag
-abbrev pub numberWidths : ℕ → ℕ → List ℕ
-numberWidths kind t = drop 1 (widthsOf kind t)
+abbrev pub number_widths : ℕ → ℕ → List ℕ
+number_widths kind t = drop 1 (widths_of kind t)

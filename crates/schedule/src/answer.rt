@@ -1,6 +1,6 @@
 // The answer to a whole file: code and place, and how much was written to each buffer.
 ghost use Rattle.std.specs.Prelude.{◌≡◌};
-ghost use Rattle.schedule.specs.Answers.{refusedAs, refusedFor};
+ghost use Rattle.schedule.specs.Answers.{refused_as, refused_for};
 
 use super::front;
 use super::front::Fault;
@@ -15,7 +15,7 @@ pub struct Answer {
 
 // Nothing was written.
 pub fn refused(code: u8, place: usize) -> Answer
-    ensures { result ≡ refusedAs code place }
+    ensures { result ≡ refused_as code place }
 {
     Answer {
         place,
@@ -27,7 +27,7 @@ pub fn refused(code: u8, place: usize) -> Answer
 
 // Nothing was written, for the fault that a file has.
 pub fn of_fault(f: Fault) -> Answer
-    ensures { result ≡ refusedFor f }
+    ensures { result ≡ refused_for f }
 {
     refused(front::code(f), front::place(f))
 }

@@ -1,6 +1,6 @@
 // How many steps a file has, or the fault among them: codes 6 and 7 in reading order.
 ghost use Rattle.std.specs.Prelude.{◌≡◌};
-ghost use Rattle.schedule.specs.Counting.{countedOf};
+ghost use Rattle.schedule.specs.Counting.{counted_of};
 
 use super::front::Fault;
 use super::{lengths, limits};
@@ -12,7 +12,7 @@ pub enum Counted {
 }
 
 pub fn count(kind: u8, file: &[u8], from: usize) -> Counted
-    ensures { result ≡ countedOf kind file.now from }
+    ensures { result ≡ counted_of kind file.now from }
 {
     let row = lengths::row_of(kind);
     let mut at = from;

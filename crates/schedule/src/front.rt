@@ -1,6 +1,6 @@
 // A file up to its first step: its length, version, kind and parameters, codes 1 to 5.
 ghost use Rattle.std.specs.Prelude.{◌≡◌};
-ghost use Rattle.schedule.specs.Front.{faultCode, faultPlace, opened_of, flatFront, lockFront, flagFront, kindFront};
+ghost use Rattle.schedule.specs.Front.{fault_code, fault_place, opened_of, flat_front, lock_front, flag_front, kind_front};
 
 use super::steps::Params;
 use super::{kinds, limits};
@@ -19,7 +19,7 @@ pub enum Fault {
 }
 
 pub fn code(f: Fault) -> u8
-    ensures { result ≡ faultCode f }
+    ensures { result ≡ fault_code f }
 {
     match f {
         Fault::Length => codes::WRONG_LENGTH,
@@ -33,7 +33,7 @@ pub fn code(f: Fault) -> u8
 }
 
 pub fn place(f: Fault) -> usize
-    ensures { result ≡ faultPlace f }
+    ensures { result ≡ fault_place f }
 {
     match f {
         Fault::Length => 0,
@@ -79,7 +79,7 @@ pub fn front(file: &[u8]) -> Opened
 
 // A kind's parameters, behind its byte.
 fn of_kind(kind: u8, file: &[u8]) -> Opened
-    ensures { result ≡ kindFront kind file.now }
+    ensures { result ≡ kind_front kind file.now }
 {
     if kind == kinds::FLAT {
         return flat(file);
@@ -101,7 +101,7 @@ fn of_kind(kind: u8, file: &[u8]) -> Opened
 
 // Clients, up to their limit.
 fn flat(file: &[u8]) -> Opened
-    ensures { result ≡ flatFront file.now }
+    ensures { result ≡ flat_front file.now }
 {
     if file.len() < 5 {
         return Opened::Faulty(Fault::Parameter);
@@ -118,7 +118,7 @@ fn flat(file: &[u8]) -> Opened
 
 // A width, from 1 up to its limit, and the initial record.
 fn lock(file: &[u8]) -> Opened
-    ensures { result ≡ lockFront file.now }
+    ensures { result ≡ lock_front file.now }
 {
     if file.len() < 9 {
         return Opened::Faulty(Fault::Parameter);
@@ -139,7 +139,7 @@ fn lock(file: &[u8]) -> Opened
 
 // Threads, from 1 up to their limit, and the value, 0 or 1.
 fn flag(file: &[u8]) -> Opened
-    ensures { result ≡ flagFront file.now }
+    ensures { result ≡ flag_front file.now }
 {
     if file.len() < 6 {
         return Opened::Faulty(Fault::Parameter);

@@ -1,7 +1,7 @@
 // The one table of step lengths, and how far the step at a place of a file reaches.
 ghost use Rattle.std.specs.Prelude.{◌≡◌};
 ghost use Rattle.schedule.specs.Widths.{length_of, RowOf};
-ghost use Rattle.schedule.specs.Reading.{measuredAt};
+ghost use Rattle.schedule.specs.Reading.{measured_at};
 
 // What a step takes with its length byte, by what stands behind the length: the tag, then a client, cell or thread (who), then numbers (what).
 // specs/Widths.antt has each step's.
@@ -65,7 +65,7 @@ pub enum Measured {
 }
 
 pub fn measure(kind: u8, file: &[u8], at: usize) -> Measured
-    ensures { result ≡ measuredAt kind file.now at }
+    ensures { result ≡ measured_at kind file.now at }
 {
     if file.len() <= at {
         return Measured::End;

@@ -1,6 +1,6 @@
 // The step at a place of a file: of a known kind, or of the kind asked for with the place after it.
 ghost use Rattle.std.specs.Prelude.{◌≡◌, ◌≤◌, length};
-ghost use Rattle.schedule.specs.Language.{stepAt, taggedAt};
+ghost use Rattle.schedule.specs.Language.{step_at, tagged_at};
 ghost use Rattle.schedule.specs.Spelling.{flat, lock, counting, flag};
 ghost use Rattle.schedule.specs.Finding.{found_at};
 
@@ -12,7 +12,7 @@ use super::{kinds, lengths};
 // unknown tag as some step. What was measured whole is read as it stands. One test of the place serves the tag, and the tags are told apart
 // in groups of at most three, which costs less than a jump to one of many places.
 pub fn flat_step(file: &[u8], at: usize) -> FlatStep
-    ensures { result ≡ stepAt flat file.now at }
+    ensures { result ≡ step_at flat file.now at }
 {
     if file.len() < 2 {
         return FlatStep::CombinerGoToCollecting;
@@ -29,7 +29,7 @@ pub fn flat_step(file: &[u8], at: usize) -> FlatStep
 // The step of a tag whose numbers stand at a place.
 fn flat_tagged(file: &[u8], tag: u8, a: usize) -> FlatStep
     requires { a ≤ length file.now }
-    ensures { result ≡ taggedAt flat file.now tag a }
+    ensures { result ≡ tagged_at flat file.now tag a }
 {
     if tag < 3 {
         if tag == 1 {
@@ -68,7 +68,7 @@ fn flat_tagged(file: &[u8], tag: u8, a: usize) -> FlatStep
 }
 
 pub fn lock_step(file: &[u8], at: usize) -> LockStep
-    ensures { result ≡ stepAt lock file.now at }
+    ensures { result ≡ step_at lock file.now at }
 {
     if file.len() < 2 {
         return LockStep::ExcStart;
@@ -84,7 +84,7 @@ pub fn lock_step(file: &[u8], at: usize) -> LockStep
 
 fn lock_tagged(file: &[u8], tag: u8, a: usize) -> LockStep
     requires { a ≤ length file.now }
-    ensures { result ≡ taggedAt lock file.now tag a }
+    ensures { result ≡ tagged_at lock file.now tag a }
 {
     if 4 < tag {
         if tag == 5 {
@@ -117,7 +117,7 @@ fn lock_tagged(file: &[u8], tag: u8, a: usize) -> LockStep
 }
 
 pub fn counting_step(file: &[u8], at: usize) -> CountingStep
-    ensures { result ≡ stepAt counting file.now at }
+    ensures { result ≡ step_at counting file.now at }
 {
     if file.len() < 2 {
         return CountingStep::NewRef;
@@ -133,7 +133,7 @@ pub fn counting_step(file: &[u8], at: usize) -> CountingStep
 
 fn counting_tagged(file: &[u8], tag: u8, a: usize) -> CountingStep
     requires { a ≤ length file.now }
-    ensures { result ≡ taggedAt counting file.now tag a }
+    ensures { result ≡ tagged_at counting file.now tag a }
 {
     if tag == 1 {
         let t = rows::get4(file, a);
@@ -150,7 +150,7 @@ fn counting_tagged(file: &[u8], tag: u8, a: usize) -> CountingStep
 }
 
 pub fn flag_step(file: &[u8], at: usize) -> FlagStep
-    ensures { result ≡ stepAt flag file.now at }
+    ensures { result ≡ step_at flag file.now at }
 {
     if file.len() < 2 {
         return FlagStep::Begin { k: 0 };
@@ -166,7 +166,7 @@ pub fn flag_step(file: &[u8], at: usize) -> FlagStep
 
 fn flag_tagged(file: &[u8], tag: u8, a: usize) -> FlagStep
     requires { a ≤ length file.now }
-    ensures { result ≡ taggedAt flag file.now tag a }
+    ensures { result ≡ tagged_at flag file.now tag a }
 {
     if tag == 1 {
         let k = rows::get1(file, a);

@@ -18,7 +18,7 @@ use Rattle.flag.specs.Flag.{flag}
 use Rattle.flag.specs.Single as flagSingle
 use Rattle.flat.specs.Flat.{flat}
 use Rattle.flat.specs.Single as flatSingle
-use Rattle.raw.specs.Raw.{byte_at, countingLong, countingFrom, countingBytes, lockLong, lockFrom, lockBytes, flagLong, flagFrom, flagBytes, flatLong, flatFrom, flatBytes}
+use Rattle.raw.specs.Raw.{byte_at, counting_long, counting_from, counting_bytes, lock_long, lock_from, lock_bytes, flag_long, flag_from, flag_bytes, flat_long, flat_from, flat_bytes}
 use Rattle.single_call.specs.declared.Called.{Called}
 use Rattle.single_call.specs.declared.Asked.{Asked}
 use Rattle.single_call.specs.declared.Asked.TheVariants.{Malformed, One}
@@ -30,8 +30,8 @@ alone n End = Malformed
 alone n Broken = Malformed
 alone n (Whole x next) = cond (eqb next n) (One x) Malformed
 
-abbrev pub askedBy : List ℕ → Asked
-askedBy step = alone (length step) (found_at (byte_at step 0) step 1)
+abbrev pub asked_by : List ℕ → Asked
+asked_by step = alone (length step) (found_at (byte_at step 0) step 1)
 
 -- ---------- what a call does to the state's bytes
 
@@ -53,37 +53,37 @@ pub record RawStepper (m : Machine) : Type 1 where
 
 module _ {m : Machine} (w : RawStepper m) where
   -- a machine's own answer: the bytes of the state after where it accepted, else those that were there
-  abbrev pub steppedAs : List ℕ → Single m → Stepped
-  steppedAs raw o = record { code = o.code; state = cond (eqb o.code 0) (w.bytes o.state) raw; entry = pieces w.stepper.bytes o.wrote }
+  abbrev pub stepped_as : List ℕ → Single m → Stepped
+  stepped_as raw o = record { code = o.code; state = cond (eqb o.code 0) (w.bytes o.state) raw; entry = pieces w.stepper.bytes o.wrote }
 
   -- the single step on the state that the bytes stand for
-  abbrev pub singleFrom : List ℕ → w.stepper.Any → List ℕ → Single m
-  singleFrom raw x log = single m w.stepper.sound w.stepper.room (w.from raw) (w.stepper.own x) log
+  abbrev pub single_from : List ℕ → w.stepper.Any → List ℕ → Single m
+  single_from raw x log = single m w.stepper.sound w.stepper.room (w.from raw) (w.stepper.own x) log
 
   -- bytes of another length are no state of the kind
   abbrev pub stepped : List ℕ → w.stepper.Any → List ℕ → Stepped
-  stepped raw x log = cond (eqb (length raw) w.long) (steppedAs raw (singleFrom raw x log)) (unchanged code.malformed raw)
+  stepped raw x log = cond (eqb (length raw) w.long) (stepped_as raw (single_from raw x log)) (unchanged code.malformed raw)
 
-abbrev pub flatRaw : RawStepper flat
-flatRaw = record { stepper = flatSingle.stepper; long = flatLong; from = flatFrom; bytes = flatBytes }
+abbrev pub flat_raw : RawStepper flat
+flat_raw = record { stepper = flatSingle.stepper; long = flat_long; from = flat_from; bytes = flat_bytes }
 
-abbrev pub lockRaw : RawStepper lock
-lockRaw = record { stepper = lockSingle.stepper; long = lockLong; from = lockFrom; bytes = lockBytes }
+abbrev pub lock_raw : RawStepper lock
+lock_raw = record { stepper = lockSingle.stepper; long = lock_long; from = lock_from; bytes = lock_bytes }
 
-abbrev pub countingRaw : RawStepper counting
-countingRaw = record { stepper = countingSingle.stepper; long = countingLong; from = countingFrom; bytes = countingBytes }
+abbrev pub counting_raw : RawStepper counting
+counting_raw = record { stepper = countingSingle.stepper; long = counting_long; from = counting_from; bytes = counting_bytes }
 
-abbrev pub flagRaw : RawStepper flag
-flagRaw = record { stepper = flagSingle.stepper; long = flagLong; from = flagFrom; bytes = flagBytes }
+abbrev pub flag_raw : RawStepper flag
+flag_raw = record { stepper = flagSingle.stepper; long = flag_long; from = flag_from; bytes = flag_bytes }
 
 -- a kind, a state, a step or none, a log buffer
-abbrev pub steppedBy : ℕ → List ℕ → Asked → List ℕ → Stepped
-steppedBy kind raw Malformed log = unchanged code.malformed raw
-steppedBy kind raw (One x) log =
-    cond (eqb kind kinds.flat) (stepped flatRaw raw x log)
-    (cond (eqb kind kinds.lock) (stepped lockRaw raw x log)
-    (cond (eqb kind kinds.counting) (stepped countingRaw raw x log)
-    (cond (eqb kind kinds.flag) (stepped flagRaw raw x log) (unchanged code.malformed raw))))
+abbrev pub stepped_by : ℕ → List ℕ → Asked → List ℕ → Stepped
+stepped_by kind raw Malformed log = unchanged code.malformed raw
+stepped_by kind raw (One x) log =
+    cond (eqb kind kinds.flat) (stepped flat_raw raw x log)
+    (cond (eqb kind kinds.lock) (stepped lock_raw raw x log)
+    (cond (eqb kind kinds.counting) (stepped counting_raw raw x log)
+    (cond (eqb kind kinds.flag) (stepped flag_raw raw x log) (unchanged code.malformed raw))))
 
 -- ---------- the promise: the answer, and both buffers at exit
 
@@ -107,7 +107,7 @@ pub record Exported : Type 0 where
 unfoldable pub exported : ℕ → List ℕ → List ℕ → List ℕ → List ℕ → Exported
 exported kind raw step log figures =
     cond (ltb (length figures) 4) (record { code = code.room; state = raw; log = log; figures = figures })
-    (let o = steppedBy kind raw (askedBy step) log in
+    (let o = stepped_by kind raw (asked_by step) log in
     record { code = o.code; state = o.state; log = over o.entry log; figures = over (big 4 (length o.entry)) figures })
 
 pub record ExportLeaves (o : Exported) (r : ℕ) (raw' log' figures' : List ℕ) : Type 0 where

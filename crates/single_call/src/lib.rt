@@ -1,7 +1,7 @@
 // The single step for programs in other languages: a kind, a raw state of that kind, one step as it stands in a file behind a byte for its kind,
 // and a log buffer. Takes any input. Accepted: the state's bytes are those of the state after. Refused: no byte of the state changes.
 ghost use Rattle.std.specs.Prelude.{◌≡◌};
-ghost use Rattle.single_call.specs.Call.{askedBy, unlogged, StepLeaves, flatRaw, lockRaw, countingRaw, flagRaw, stepped, steppedBy, exported, ExportLeaves};
+ghost use Rattle.single_call.specs.Call.{asked_by, unlogged, StepLeaves, flat_raw, lock_raw, counting_raw, flag_raw, stepped, stepped_by, exported, ExportLeaves};
 
 use counting::single as counting_single;
 use flag::single as flag_single;
@@ -48,7 +48,7 @@ enum Asked {
 }
 
 pub fn single_call(kind: u8, state: &mut [u8], step: &[u8], log: &mut [u8]) -> Called
-    ensures { StepLeaves (steppedBy kind state.old (askedBy step.now) log.old) log.old result state.new log.new }
+    ensures { StepLeaves (stepped_by kind state.old (asked_by step.now) log.old) log.old result state.new log.new }
 {
     match step_of(step) {
         Asked::Malformed => quiet(codes::MALFORMED),
@@ -72,7 +72,7 @@ pub fn single_call(kind: u8, state: &mut [u8], step: &[u8], log: &mut [u8]) -> C
 
 // An empty step has no kind, so nothing stands behind it.
 fn step_of(step: &[u8]) -> Asked
-    ensures { result ≡ askedBy step.now }
+    ensures { result ≡ asked_by step.now }
 {
     match read::read(rows::get1(step, 0), step, 1) {
         Found::End => Asked::Malformed,
@@ -96,7 +96,7 @@ fn quiet(code: u8) -> Called
 // ---- one function for each machine, all of one shape
 
 fn flat_call(state: &mut [u8], x: Step, log: &mut [u8]) -> Called
-    ensures { StepLeaves (stepped flatRaw state.old x log.old) log.old result state.new log.new }
+    ensures { StepLeaves (stepped flat_raw state.old x log.old) log.old result state.new log.new }
 {
     if state.len() != flat_raw::LENGTH {
         return quiet(codes::MALFORMED);
@@ -118,7 +118,7 @@ fn flat_call(state: &mut [u8], x: Step, log: &mut [u8]) -> Called
 }
 
 fn lock_call(state: &mut [u8], x: Step, log: &mut [u8]) -> Called
-    ensures { StepLeaves (stepped lockRaw state.old x log.old) log.old result state.new log.new }
+    ensures { StepLeaves (stepped lock_raw state.old x log.old) log.old result state.new log.new }
 {
     if state.len() != lock_raw::LENGTH {
         return quiet(codes::MALFORMED);
@@ -140,7 +140,7 @@ fn lock_call(state: &mut [u8], x: Step, log: &mut [u8]) -> Called
 }
 
 fn counting_call(state: &mut [u8], x: Step, log: &mut [u8]) -> Called
-    ensures { StepLeaves (stepped countingRaw state.old x log.old) log.old result state.new log.new }
+    ensures { StepLeaves (stepped counting_raw state.old x log.old) log.old result state.new log.new }
 {
     if state.len() != counting_raw::LENGTH {
         return quiet(codes::MALFORMED);
@@ -162,7 +162,7 @@ fn counting_call(state: &mut [u8], x: Step, log: &mut [u8]) -> Called
 }
 
 fn flag_call(state: &mut [u8], x: Step, log: &mut [u8]) -> Called
-    ensures { StepLeaves (stepped flagRaw state.old x log.old) log.old result state.new log.new }
+    ensures { StepLeaves (stepped flag_raw state.old x log.old) log.old result state.new log.new }
 {
     if state.len() != flag_raw::LENGTH {
         return quiet(codes::MALFORMED);

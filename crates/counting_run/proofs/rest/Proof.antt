@@ -1,8 +1,8 @@
 -- `counting_run::rest` meets its contract: a fault is answered as it is counted, and else the steps are replayed. Assumes nothing.
 use borrow.Author.Rules.{rules}
-use Rattle.schedule.proofs.Running.{counts, faulty-leaves}
+use Rattle.schedule.proofs.Running.{counts, faulty_leaves}
 use Rattle.counting_run.specs.Run.{runner}
-use Rattle.counting_run.proofs.Carried.{carries, fresh-good, fresh-leaves}
+use Rattle.counting_run.proofs.Carried.{carries, fresh_good, fresh_leaves}
 use Rattle.counting_run.proofs.rest.Statement.{statement}
 use Rattle.counting_run.proofs.rest.Tie as tie
 
@@ -22,10 +22,10 @@ enum-known-n : tie.Need-enum-known-n
 enum-known-n c = search rules
 
 replayed-requires : tie.Need-replayed-requires
-replayed-requires c κs = search (counts, fresh-good)
+replayed-requires c κs = search (counts, fresh_good)
 
 returns : tie.Need-returns
-returns c = search (faulty-leaves runner carries)
+returns c = search (faulty_leaves runner carries)
 
 same_length : tie.Need-same-length
 same_length c = search rules
@@ -34,7 +34,7 @@ same-length-2 : tie.Need-same-length-2
 same-length-2 c = search rules
 
 returns-2 : tie.Need-returns-2
-returns-2 c = search fresh-leaves
+returns-2 c = search fresh_leaves
 
 pub rest-spec : {M : Type 1} → statement M
 rest-spec =

@@ -4,8 +4,8 @@ use borrow.Author.Rules.{rules}
 use Rattle.schedule.proofs.Running.{Runs, starts, ends}
 use Rattle.counting_run.specs.Run.{runner}
 use Rattle.counting_run.proofs.Carried.{carries}
-use Rattle.counting_run.proofs.Turns.{refused, writeable-to-readable-turn, readable-to-writeable-turn, new-ref-turn, delete-ref-turn}
-use Rattle.counting_run.proofs.Turns.{writeable-to-readable-ahead, readable-to-writeable-ahead, new-ref-ahead, delete-ref-ahead}
+use Rattle.counting_run.proofs.Turns.{refused, writeable_to_readable_turn, readable_to_writeable_turn, new_ref_turn, delete_ref_turn}
+use Rattle.counting_run.proofs.Turns.{writeable_to_readable_ahead, readable_to_writeable_ahead, new_ref_ahead, delete_ref_ahead}
 use Rattle.counting_run.proofs.run.Statement.{statement}
 use Rattle.counting_run.proofs.run.Tie as tie
 
@@ -28,7 +28,7 @@ writeable-to-readable-requires : tie.Need-writeable-to-readable-requires invaria
 writeable-to-readable-requires c κs = search rules
 
 add_at : tie.Need-overflow-add-at invariant-loop decreases-loop
-add_at c = search writeable-to-readable-ahead
+add_at c = search writeable_to_readable_ahead
 
 add-k : tie.Need-overflow-add-k invariant-loop decreases-loop
 add-k c = search rules
@@ -37,7 +37,7 @@ loop-less : tie.Need-loop-smaller invariant-loop decreases-loop
 loop-less c = search rules
 
 loop-again : tie.Need-loop-preserved invariant-loop decreases-loop
-loop-again c = search writeable-to-readable-turn
+loop-again c = search writeable_to_readable_turn
 
 enum_told : tie.Need-enum-told invariant-loop decreases-loop
 enum_told c = search rules
@@ -49,7 +49,7 @@ put-entry-requires : tie.Need-put-entry-requires invariant-loop decreases-loop
 put-entry-requires c κs = search rules
 
 add-at-2 : tie.Need-overflow-add-at-2 invariant-loop decreases-loop
-add-at-2 c = search readable-to-writeable-ahead
+add-at-2 c = search readable_to_writeable_ahead
 
 add-k-2 : tie.Need-overflow-add-k-2 invariant-loop decreases-loop
 add-k-2 c = search rules
@@ -58,7 +58,7 @@ loop-less-2 : tie.Need-loop-smaller-2 invariant-loop decreases-loop
 loop-less-2 c = search rules
 
 loop-again-2 : tie.Need-loop-preserved-2 invariant-loop decreases-loop
-loop-again-2 c = search readable-to-writeable-turn
+loop-again-2 c = search readable_to_writeable_turn
 
 enum-told-2 : tie.Need-enum-told-2 invariant-loop decreases-loop
 enum-told-2 c = search rules
@@ -70,7 +70,7 @@ put-entry-requires-2 : tie.Need-put-entry-requires-2 invariant-loop decreases-lo
 put-entry-requires-2 c κs = search rules
 
 add-at-3 : tie.Need-overflow-add-at-3 invariant-loop decreases-loop
-add-at-3 c = search new-ref-ahead
+add-at-3 c = search new_ref_ahead
 
 add-k-3 : tie.Need-overflow-add-k-3 invariant-loop decreases-loop
 add-k-3 c = search rules
@@ -79,7 +79,7 @@ loop-less-3 : tie.Need-loop-smaller-3 invariant-loop decreases-loop
 loop-less-3 c = search rules
 
 loop-again-3 : tie.Need-loop-preserved-3 invariant-loop decreases-loop
-loop-again-3 c = search new-ref-turn
+loop-again-3 c = search new_ref_turn
 
 enum-known-step-2 : tie.Need-enum-known-step-2 invariant-loop decreases-loop
 enum-known-step-2 c = search rules
@@ -88,7 +88,7 @@ delete-ref-requires : tie.Need-delete-ref-requires invariant-loop decreases-loop
 delete-ref-requires c κs = search rules
 
 add-at-4 : tie.Need-overflow-add-at-4 invariant-loop decreases-loop
-add-at-4 c = search delete-ref-ahead
+add-at-4 c = search delete_ref_ahead
 
 add-k-4 : tie.Need-overflow-add-k-4 invariant-loop decreases-loop
 add-k-4 c = search rules
@@ -97,7 +97,7 @@ loop-less-4 : tie.Need-loop-smaller-4 invariant-loop decreases-loop
 loop-less-4 c = search rules
 
 loop-again-4 : tie.Need-loop-preserved-4 invariant-loop decreases-loop
-loop-again-4 c = search delete-ref-turn
+loop-again-4 c = search delete_ref_turn
 
 same_length : tie.Need-same-length invariant-loop decreases-loop
 same_length c = search rules

@@ -1,7 +1,7 @@
 -- `flag_run::replayed` meets its contract: the room is tested, and the steps run are the file's. Assumes nothing.
 use borrow.Author.Rules.{rules}
-use Rattle.schedule.proofs.Running.{product, runnable, log-short, image-short, ran-leaves}
-use Rattle.flag_run.specs.Run.{runner, leftBy}
+use Rattle.schedule.proofs.Running.{product, runnable, log_short, image_short, ran_leaves}
+use Rattle.flag_run.specs.Run.{runner, left_by}
 use Rattle.flag_run.proofs.Carried.{carries}
 use Rattle.flag_run.proofs.replayed.Statement.{statement}
 use Rattle.flag_run.proofs.replayed.Tie as tie
@@ -13,13 +13,13 @@ refused-requires : tie.Need-refused-requires
 refused-requires c κs = search rules
 
 returns : tie.Need-returns
-returns c = search (log-short runner carries)
+returns c = search (log_short runner carries)
 
 refused-requires-2 : tie.Need-refused-requires-2
 refused-requires-2 c κs = search rules
 
 returns-2 : tie.Need-returns-2
-returns-2 c = search (image-short runner carries)
+returns-2 c = search (image_short runner carries)
 
 run-requires : tie.Need-run-requires
 run-requires c κs = search (runnable runner carries)
@@ -36,7 +36,7 @@ same-length-2 c = search rules
 returns-3 : tie.Need-returns-3
 returns-3 c =
     let ran = c.before.before.before.before.before.before.before.run in
-    ran-leaves runner carries _ _ _ _ _ _ (search rules) (search rules) (search rules) (leftBy ran.result _) ran.ensures _ _ (search rules)
+    ran_leaves runner carries _ _ _ _ _ _ (search rules) (search rules) (search rules) (left_by ran.result _) ran.ensures _ _ (search rules)
 
 pub replayed-spec : {M : Type 1} → statement M
 replayed-spec =

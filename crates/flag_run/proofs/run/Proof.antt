@@ -2,11 +2,11 @@
 use Prim.Native.Nat.{◌-◌}
 use borrow.Author.Rules.{rules}
 use Rattle.schedule.proofs.Running.{Runs, starts, ends}
-use Rattle.flag.proofs.Arms.{begin-outside, begin-busy, begin-fair, move-outside, move-idle, read-outside, read-busy, read-fair}
-use Rattle.flag.proofs.Sounds.{means-sound}
+use Rattle.flag.proofs.Arms.{begin_outside, begin_busy, begin_fair, move_outside, move_idle, read_outside, read_busy, read_fair}
+use Rattle.flag.proofs.Sounds.{means_sound}
 use Rattle.flag_run.specs.Run.{runner}
 use Rattle.flag_run.proofs.Carried.{carries}
-use Rattle.flag_run.proofs.Turns.{ahead, inside-row, refused, begin-turn, move-turn, read-turn}
+use Rattle.flag_run.proofs.Turns.{ahead, inside_row, refused, begin_turn, move_turn, read_turn}
 use Rattle.flag_run.proofs.run.Statement.{statement}
 use Rattle.flag_run.proofs.run.Tie as tie
 
@@ -32,13 +32,13 @@ cast-i : tie.Need-overflow-cast-i invariant-loop decreases-loop
 cast-i c = search rules
 
 element-copy-out-p : tie.Need-element-copy-out-p invariant-loop decreases-loop
-element-copy-out-p c = search inside-row
+element-copy-out-p c = search inside_row
 
 may-begin-requires : tie.Need-may-begin-requires invariant-loop decreases-loop
 may-begin-requires c κs = search rules
 
 element-write-s : tie.Need-element-write-s invariant-loop decreases-loop
-element-write-s c = search inside-row
+element-write-s c = search inside_row
 
 add_at : tie.Need-overflow-add-at invariant-loop decreases-loop
 add_at c = search ahead
@@ -50,7 +50,7 @@ loop-less : tie.Need-loop-smaller invariant-loop decreases-loop
 loop-less c = search rules
 
 loop-again : tie.Need-loop-preserved invariant-loop decreases-loop
-loop-again c = search (begin-turn, begin-fair)
+loop-again c = search (begin_turn, begin_fair)
 
 enum-known-step-2 : tie.Need-enum-known-step-2 invariant-loop decreases-loop
 enum-known-step-2 c = search rules
@@ -62,7 +62,7 @@ cast-i-2 : tie.Need-overflow-cast-i-2 invariant-loop decreases-loop
 cast-i-2 c = search rules
 
 element-copy-out-p-2 : tie.Need-element-copy-out-p-2 invariant-loop decreases-loop
-element-copy-out-p-2 c = search inside-row
+element-copy-out-p-2 c = search inside_row
 
 may-move-requires : tie.Need-may-move-requires invariant-loop decreases-loop
 may-move-requires c κs = search rules
@@ -74,7 +74,7 @@ put-flips-requires : tie.Need-put-flips-requires invariant-loop decreases-loop
 put-flips-requires c κs = search rules
 
 element-write-s-2 : tie.Need-element-write-s-2 invariant-loop decreases-loop
-element-write-s-2 c = search inside-row
+element-write-s-2 c = search inside_row
 
 add-at-2 : tie.Need-overflow-add-at-2 invariant-loop decreases-loop
 add-at-2 c = search ahead
@@ -86,7 +86,7 @@ loop-less-2 : tie.Need-loop-smaller-2 invariant-loop decreases-loop
 loop-less-2 c = search rules
 
 loop-again-2 : tie.Need-loop-preserved-2 invariant-loop decreases-loop
-loop-again-2 c = search move-turn
+loop-again-2 c = search move_turn
 
 enum-known-step-3 : tie.Need-enum-known-step-3 invariant-loop decreases-loop
 enum-known-step-3 c = search rules
@@ -98,7 +98,7 @@ cast-i-3 : tie.Need-overflow-cast-i-3 invariant-loop decreases-loop
 cast-i-3 c = search rules
 
 element-copy-out-p-3 : tie.Need-element-copy-out-p-3 invariant-loop decreases-loop
-element-copy-out-p-3 c = search inside-row
+element-copy-out-p-3 c = search inside_row
 
 may-begin-requires-2 : tie.Need-may-begin-requires-2 invariant-loop decreases-loop
 may-begin-requires-2 c κs = search rules
@@ -116,7 +116,7 @@ loop-less-3 : tie.Need-loop-smaller-3 invariant-loop decreases-loop
 loop-less-3 c = search rules
 
 loop-again-3 : tie.Need-loop-preserved-3 invariant-loop decreases-loop
-loop-again-3 c = search (read-turn, read-fair)
+loop-again-3 c = search (read_turn, read_fair)
 
 same_length : tie.Need-same-length invariant-loop decreases-loop
 same_length c = search rules
@@ -128,37 +128,37 @@ same-length-2 : tie.Need-same-length-2 invariant-loop decreases-loop
 same-length-2 c = search rules
 
 returns-2 : tie.Need-returns-2 invariant-loop decreases-loop
-returns-2 c = search (refused, begin-outside)
+returns-2 c = search (refused, begin_outside)
 
 same-length-3 : tie.Need-same-length-3 invariant-loop decreases-loop
 same-length-3 c = search rules
 
 returns-3 : tie.Need-returns-3 invariant-loop decreases-loop
-returns-3 c = search (refused, begin-busy)
+returns-3 c = search (refused, begin_busy)
 
 same-length-4 : tie.Need-same-length-4 invariant-loop decreases-loop
 same-length-4 c = search rules
 
 returns-4 : tie.Need-returns-4 invariant-loop decreases-loop
-returns-4 c = search (refused, move-outside)
+returns-4 c = search (refused, move_outside)
 
 same-length-5 : tie.Need-same-length-5 invariant-loop decreases-loop
 same-length-5 c = search rules
 
 returns-5 : tie.Need-returns-5 invariant-loop decreases-loop
-returns-5 c = search (refused, move-idle, means-sound)
+returns-5 c = search (refused, move_idle, means_sound)
 
 same-length-6 : tie.Need-same-length-6 invariant-loop decreases-loop
 same-length-6 c = search rules
 
 returns-6 : tie.Need-returns-6 invariant-loop decreases-loop
-returns-6 c = search (refused, read-outside)
+returns-6 c = search (refused, read_outside)
 
 same-length-7 : tie.Need-same-length-7 invariant-loop decreases-loop
 same-length-7 c = search rules
 
 returns-7 : tie.Need-returns-7 invariant-loop decreases-loop
-returns-7 c = search (refused, read-busy)
+returns-7 c = search (refused, read_busy)
 
 pub run_spec : {M : Type 1} → statement M
 run_spec =

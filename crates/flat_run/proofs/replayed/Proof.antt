@@ -1,6 +1,6 @@
 -- `flat_run::replayed` meets its contract: the room is tested, and the steps run are the file's. Assumes nothing.
 use borrow.Author.Rules.{rules}
-use Rattle.schedule.proofs.Running.{product, runnable, log-short, image-short, ran-leaves}
+use Rattle.schedule.proofs.Running.{product, runnable, log_short, image_short, ran_leaves}
 use Rattle.flat_run.specs.Run.{runner}
 use Rattle.flat_run.proofs.Carried.{carries}
 use Rattle.flat_run.proofs.replayed.Statement.{statement}
@@ -13,13 +13,13 @@ refused-requires : tie.Need-refused-requires
 refused-requires c κs = search rules
 
 returns : tie.Need-returns
-returns c = search (log-short runner carries)
+returns c = search (log_short runner carries)
 
 refused-requires-2 : tie.Need-refused-requires-2
 refused-requires-2 c κs = search rules
 
 returns-2 : tie.Need-returns-2
-returns-2 c = search (image-short runner carries)
+returns-2 c = search (image_short runner carries)
 
 run-requires : tie.Need-run-requires
 run-requires c κs = search (runnable runner carries)
@@ -39,7 +39,7 @@ returns-3 c =
     let ran = shown.before.before.before.before.before in
     let room = ran.before.before in
     let given = room.before.before.before.before.before in
-    ran-leaves runner carries _ _ _ _ _ _ given.requires.0 room.before.if1.false room.if2.false _ ran.run.ensures _ _ shown.image.ensures
+    ran_leaves runner carries _ _ _ _ _ _ given.requires.0 room.before.if1.false room.if2.false _ ran.run.ensures _ _ shown.image.ensures
 
 pub replayed-spec : {M : Type 1} → statement M
 replayed-spec =

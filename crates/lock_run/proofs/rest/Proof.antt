@@ -1,8 +1,8 @@
 -- `lock_run::rest` meets its contract: bad parameters and faults are answered as they are, and else the steps are replayed. Assumes nothing.
 use borrow.Author.Rules.{rules}
-use Rattle.schedule.proofs.Running.{counts, faulty-leaves}
+use Rattle.schedule.proofs.Running.{counts, faulty_leaves}
 use Rattle.lock_run.specs.Run.{runner}
-use Rattle.lock_run.proofs.Carried.{carries, fresh-good, fresh-refused, fresh-leaves}
+use Rattle.lock_run.proofs.Carried.{carries, fresh_good, fresh_refused, fresh_leaves}
 use Rattle.lock_run.proofs.rest.Statement.{statement}
 use Rattle.lock_run.proofs.rest.Tie as tie
 
@@ -13,7 +13,7 @@ refused-requires : tie.Need-refused-requires
 refused-requires c κs = search rules
 
 returns : tie.Need-returns
-returns c = search fresh-refused
+returns c = search fresh_refused
 
 count-requires : tie.Need-count-requires
 count-requires c κs = search rules
@@ -28,10 +28,10 @@ enum-known-n : tie.Need-enum-known-n
 enum-known-n c = search rules
 
 replayed-requires : tie.Need-replayed-requires
-replayed-requires c κs = search (counts, fresh-good)
+replayed-requires c κs = search (counts, fresh_good)
 
 returns-2 : tie.Need-returns-2
-returns-2 c = search (fresh-leaves, faulty-leaves runner carries)
+returns-2 c = search (fresh_leaves, faulty_leaves runner carries)
 
 same_length : tie.Need-same-length
 same_length c = search rules
@@ -40,7 +40,7 @@ same-length-2 : tie.Need-same-length-2
 same-length-2 c = search rules
 
 returns-3 : tie.Need-returns-3
-returns-3 c = search fresh-leaves
+returns-3 c = search fresh_leaves
 
 pub rest-spec : {M : Type 1} → statement M
 rest-spec =

@@ -2,16 +2,16 @@
 use Prim.Native.Nat.{◌-◌}
 use borrow.Author.Rules.{rules}
 use Rattle.schedule.proofs.Running.{Runs, starts, ends, stops}
-use Rattle.lock.proofs.Moved.{cursor-inside, cell-inside, finish-inside}
-use Rattle.lock.proofs.Arms.{stopped, exc-start-fair, exc-check-count-fair, exc-finish-fair, exc-release-fair}
-use Rattle.lock.proofs.Arms.{shared-start-fair, shared-finish-fair, shared-release-fair}
-use Rattle.lock.proofs.Sounds.{means-sound}
+use Rattle.lock.proofs.Moved.{cursor_inside, cell_inside, finish_inside}
+use Rattle.lock.proofs.Arms.{stopped, exc_start_fair, exc_check_count_fair, exc_finish_fair, exc_release_fair}
+use Rattle.lock.proofs.Arms.{shared_start_fair, shared_finish_fair, shared_release_fair}
+use Rattle.lock.proofs.Sounds.{means_sound}
 use Rattle.lock_run.specs.Run.{runner}
 use Rattle.lock_run.proofs.Carried.{carries}
-use Rattle.lock_run.proofs.Turns.{head-refused, exc-start-turn, exc-start-ahead, exc-check-count-turn, exc-check-count-ahead}
-use Rattle.lock_run.proofs.Turns.{exc-finish-turn, exc-finish-ahead, exc-release-turn, exc-release-ahead}
-use Rattle.lock_run.proofs.Turns.{shared-start-refused, shared-start-turn, shared-start-ahead, shared-finish-refused, shared-finish-turn, shared-finish-ahead}
-use Rattle.lock_run.proofs.Turns.{shared-release-refused, shared-release-turn, shared-release-ahead}
+use Rattle.lock_run.proofs.Turns.{head_refused, exc_start_turn, exc_start_ahead, exc_check_count_turn, exc_check_count_ahead}
+use Rattle.lock_run.proofs.Turns.{exc_finish_turn, exc_finish_ahead, exc_release_turn, exc_release_ahead}
+use Rattle.lock_run.proofs.Turns.{shared_start_refused, shared_start_turn, shared_start_ahead, shared_finish_refused, shared_finish_turn, shared_finish_ahead}
+use Rattle.lock_run.proofs.Turns.{shared_release_refused, shared_release_turn, shared_release_ahead}
 use Rattle.lock_run.proofs.run.Statement.{statement}
 use Rattle.lock_run.proofs.run.Tie as tie
 
@@ -36,7 +36,7 @@ exc-start-requires : tie.Need-exc-start-requires invariant-loop decreases-loop
 exc-start-requires c κs = search rules
 
 add_at : tie.Need-overflow-add-at invariant-loop decreases-loop
-add_at c = search exc-start-ahead
+add_at c = search exc_start_ahead
 
 add-k : tie.Need-overflow-add-k invariant-loop decreases-loop
 add-k c = search rules
@@ -45,7 +45,7 @@ loop-less : tie.Need-loop-smaller invariant-loop decreases-loop
 loop-less c = search rules
 
 loop-again : tie.Need-loop-preserved invariant-loop decreases-loop
-loop-again c = search (exc-start-turn, exc-start-fair)
+loop-again c = search (exc_start_turn, exc_start_fair)
 
 -- exc_check_count
 enum-told-2 : tie.Need-enum-told-2 invariant-loop decreases-loop
@@ -61,13 +61,13 @@ mul-c : tie.Need-overflow-mul-c invariant-loop decreases-loop
 mul-c c = search rules
 
 element-copy-out-c : tie.Need-element-copy-out-c invariant-loop decreases-loop
-element-copy-out-c c = search (cursor-inside, means-sound)
+element-copy-out-c c = search (cursor_inside, means_sound)
 
 exc-check-count-requires : tie.Need-exc-check-count-requires invariant-loop decreases-loop
 exc-check-count-requires c κs = search rules
 
 add-at-2 : tie.Need-overflow-add-at-2 invariant-loop decreases-loop
-add-at-2 c = search exc-check-count-ahead
+add-at-2 c = search exc_check_count_ahead
 
 add-k-2 : tie.Need-overflow-add-k-2 invariant-loop decreases-loop
 add-k-2 c = search rules
@@ -76,7 +76,7 @@ loop-less-2 : tie.Need-loop-smaller-2 invariant-loop decreases-loop
 loop-less-2 c = search rules
 
 loop-again-2 : tie.Need-loop-preserved-2 invariant-loop decreases-loop
-loop-again-2 c = search (exc-check-count-turn, exc-check-count-fair, means-sound)
+loop-again-2 c = search (exc_check_count_turn, exc_check_count_fair, means_sound)
 
 -- exc_finish
 enum-told-3 : tie.Need-enum-told-3 invariant-loop decreases-loop
@@ -89,7 +89,7 @@ put-entry-requires : tie.Need-put-entry-requires invariant-loop decreases-loop
 put-entry-requires c κs = search rules
 
 add-at-3 : tie.Need-overflow-add-at-3 invariant-loop decreases-loop
-add-at-3 c = search exc-finish-ahead
+add-at-3 c = search exc_finish_ahead
 
 add-k-3 : tie.Need-overflow-add-k-3 invariant-loop decreases-loop
 add-k-3 c = search rules
@@ -98,7 +98,7 @@ loop-less-3 : tie.Need-loop-smaller-3 invariant-loop decreases-loop
 loop-less-3 c = search rules
 
 loop-again-3 : tie.Need-loop-preserved-3 invariant-loop decreases-loop
-loop-again-3 c = search (exc-finish-turn, exc-finish-fair)
+loop-again-3 c = search (exc_finish_turn, exc_finish_fair)
 
 -- exc_release
 enum-known-step : tie.Need-enum-known-step invariant-loop decreases-loop
@@ -108,7 +108,7 @@ exc-release-requires : tie.Need-exc-release-requires invariant-loop decreases-lo
 exc-release-requires c κs = search rules
 
 add-at-4 : tie.Need-overflow-add-at-4 invariant-loop decreases-loop
-add-at-4 c = search exc-release-ahead
+add-at-4 c = search exc_release_ahead
 
 add-k-4 : tie.Need-overflow-add-k-4 invariant-loop decreases-loop
 add-k-4 c = search rules
@@ -117,7 +117,7 @@ loop-less-4 : tie.Need-loop-smaller-4 invariant-loop decreases-loop
 loop-less-4 c = search rules
 
 loop-again-4 : tie.Need-loop-preserved-4 invariant-loop decreases-loop
-loop-again-4 c = search (exc-release-turn, exc-release-fair)
+loop-again-4 c = search (exc_release_turn, exc_release_fair)
 
 -- shared_start
 enum-known-step-2 : tie.Need-enum-known-step-2 invariant-loop decreases-loop
@@ -133,7 +133,7 @@ mul-c-2 : tie.Need-overflow-mul-c-2 invariant-loop decreases-loop
 mul-c-2 c = search rules
 
 element-copy-out-c-2 : tie.Need-element-copy-out-c-2 invariant-loop decreases-loop
-element-copy-out-c-2 c = search (cell-inside, means-sound)
+element-copy-out-c-2 c = search (cell_inside, means_sound)
 
 shared-start-requires : tie.Need-shared-start-requires invariant-loop decreases-loop
 shared-start-requires c κs = search rules
@@ -142,10 +142,10 @@ mul-d : tie.Need-overflow-mul-d invariant-loop decreases-loop
 mul-d c = search rules
 
 element-set-from-d : tie.Need-element-set-from-d invariant-loop decreases-loop
-element-set-from-d c = search (cell-inside, means-sound)
+element-set-from-d c = search (cell_inside, means_sound)
 
 add-at-5 : tie.Need-overflow-add-at-5 invariant-loop decreases-loop
-add-at-5 c = search shared-start-ahead
+add-at-5 c = search shared_start_ahead
 
 add-k-5 : tie.Need-overflow-add-k-5 invariant-loop decreases-loop
 add-k-5 c = search rules
@@ -154,7 +154,7 @@ loop-less-5 : tie.Need-loop-smaller-5 invariant-loop decreases-loop
 loop-less-5 c = search rules
 
 loop-again-5 : tie.Need-loop-preserved-5 invariant-loop decreases-loop
-loop-again-5 c = search (shared-start-turn, shared-start-fair, means-sound)
+loop-again-5 c = search (shared_start_turn, shared_start_fair, means_sound)
 
 -- shared_finish
 enum-known-step-3 : tie.Need-enum-known-step-3 invariant-loop decreases-loop
@@ -170,7 +170,7 @@ mul-c-3 : tie.Need-overflow-mul-c-3 invariant-loop decreases-loop
 mul-c-3 c = search rules
 
 element-copy-out-c-3 : tie.Need-element-copy-out-c-3 invariant-loop decreases-loop
-element-copy-out-c-3 c = search (finish-inside, means-sound)
+element-copy-out-c-3 c = search (finish_inside, means_sound)
 
 shared-finish-requires : tie.Need-shared-finish-requires invariant-loop decreases-loop
 shared-finish-requires c κs = search rules
@@ -182,10 +182,10 @@ mul-d-2 : tie.Need-overflow-mul-d-2 invariant-loop decreases-loop
 mul-d-2 c = search rules
 
 element-set-from-d-2 : tie.Need-element-set-from-d-2 invariant-loop decreases-loop
-element-set-from-d-2 c = search (finish-inside, means-sound)
+element-set-from-d-2 c = search (finish_inside, means_sound)
 
 add-at-6 : tie.Need-overflow-add-at-6 invariant-loop decreases-loop
-add-at-6 c = search shared-finish-ahead
+add-at-6 c = search shared_finish_ahead
 
 add-k-6 : tie.Need-overflow-add-k-6 invariant-loop decreases-loop
 add-k-6 c = search rules
@@ -194,7 +194,7 @@ loop-less-6 : tie.Need-loop-smaller-6 invariant-loop decreases-loop
 loop-less-6 c = search rules
 
 loop-again-6 : tie.Need-loop-preserved-6 invariant-loop decreases-loop
-loop-again-6 c = search (shared-finish-turn, shared-finish-fair, means-sound)
+loop-again-6 c = search (shared_finish_turn, shared_finish_fair, means_sound)
 
 -- shared_release
 enum-known-step-4 : tie.Need-enum-known-step-4 invariant-loop decreases-loop
@@ -210,7 +210,7 @@ mul-c-4 : tie.Need-overflow-mul-c-4 invariant-loop decreases-loop
 mul-c-4 c = search rules
 
 element-copy-out-c-4 : tie.Need-element-copy-out-c-4 invariant-loop decreases-loop
-element-copy-out-c-4 c = search (cell-inside, means-sound)
+element-copy-out-c-4 c = search (cell_inside, means_sound)
 
 shared-release-requires : tie.Need-shared-release-requires invariant-loop decreases-loop
 shared-release-requires c κs = search rules
@@ -219,10 +219,10 @@ mul-d-3 : tie.Need-overflow-mul-d-3 invariant-loop decreases-loop
 mul-d-3 c = search rules
 
 element-set-from-d-3 : tie.Need-element-set-from-d-3 invariant-loop decreases-loop
-element-set-from-d-3 c = search (cell-inside, means-sound)
+element-set-from-d-3 c = search (cell_inside, means_sound)
 
 add-at-7 : tie.Need-overflow-add-at-7 invariant-loop decreases-loop
-add-at-7 c = search shared-release-ahead
+add-at-7 c = search shared_release_ahead
 
 add-k-7 : tie.Need-overflow-add-k-7 invariant-loop decreases-loop
 add-k-7 c = search rules
@@ -231,44 +231,44 @@ loop-less-7 : tie.Need-loop-smaller-7 invariant-loop decreases-loop
 loop-less-7 c = search rules
 
 loop-again-7 : tie.Need-loop-preserved-7 invariant-loop decreases-loop
-loop-again-7 c = search (shared-release-turn, shared-release-fair, means-sound)
+loop-again-7 c = search (shared_release_turn, shared_release_fair, means_sound)
 
 -- the ways out, which leave the log as long as it was: the end, and a refusal at each test
 returns : tie.Need-returns invariant-loop decreases-loop
 returns c = search (ends runner carries)
 
 returns-2 : tie.Need-returns-2 invariant-loop decreases-loop
-returns-2 c = search (head-refused, exc-start-fair)
+returns-2 c = search (head_refused, exc_start_fair)
 
 returns-3 : tie.Need-returns-3 invariant-loop decreases-loop
 returns-3 c = search (stops runner carries, stopped)
 
 returns-4 : tie.Need-returns-4 invariant-loop decreases-loop
-returns-4 c = search (head-refused, exc-check-count-fair, means-sound)
+returns-4 c = search (head_refused, exc_check_count_fair, means_sound)
 
 returns-5 : tie.Need-returns-5 invariant-loop decreases-loop
-returns-5 c = search (head-refused, exc-finish-fair)
+returns-5 c = search (head_refused, exc_finish_fair)
 
 returns-6 : tie.Need-returns-6 invariant-loop decreases-loop
-returns-6 c = search (head-refused, exc-release-fair)
+returns-6 c = search (head_refused, exc_release_fair)
 
 returns-7 : tie.Need-returns-7 invariant-loop decreases-loop
 returns-7 c = search (stops runner carries, stopped)
 
 returns-8 : tie.Need-returns-8 invariant-loop decreases-loop
-returns-8 c = search (shared-start-refused, shared-start-fair, means-sound)
+returns-8 c = search (shared_start_refused, shared_start_fair, means_sound)
 
 returns-9 : tie.Need-returns-9 invariant-loop decreases-loop
 returns-9 c = search (stops runner carries, stopped)
 
 returns-10 : tie.Need-returns-10 invariant-loop decreases-loop
-returns-10 c = search (shared-finish-refused, shared-finish-fair, means-sound)
+returns-10 c = search (shared_finish_refused, shared_finish_fair, means_sound)
 
 returns-11 : tie.Need-returns-11 invariant-loop decreases-loop
 returns-11 c = search (stops runner carries, stopped)
 
 returns-12 : tie.Need-returns-12 invariant-loop decreases-loop
-returns-12 c = search (shared-release-refused, shared-release-fair, means-sound)
+returns-12 c = search (shared_release_refused, shared_release_fair, means_sound)
 
 pub run_spec : {M : Type 1} → statement M
 run_spec =

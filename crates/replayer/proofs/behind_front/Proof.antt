@@ -1,6 +1,6 @@
 -- `replayer::behind_front` meets its contract: each kind has its own loop. Assumes nothing.
 use borrow.Author.Rules.{rules}
-use Rattle.replayer.proofs.Behind.{as-flat, as-lock, as-counting, as-flag}
+use Rattle.replayer.proofs.Behind.{as_flat, as_lock, as_counting, as_flag}
 use Rattle.replayer.proofs.behind_front.Statement.{statement}
 use Rattle.replayer.proofs.behind_front.Tie as tie
 
@@ -35,7 +35,7 @@ same-length-2 : tie.Need-same-length-2
 same-length-2 c = search rules
 
 returns : tie.Need-returns
-returns c = search as-flat
+returns c = search as_flat
 
 same-length-3 : tie.Need-same-length-3
 same-length-3 c = search rules
@@ -44,7 +44,7 @@ same-length-4 : tie.Need-same-length-4
 same-length-4 c = search rules
 
 returns-2 : tie.Need-returns-2
-returns-2 c = search as-lock
+returns-2 c = search as_lock
 
 same-length-5 : tie.Need-same-length-5
 same-length-5 c = search rules
@@ -53,7 +53,7 @@ same-length-6 : tie.Need-same-length-6
 same-length-6 c = search rules
 
 returns-3 : tie.Need-returns-3
-returns-3 c = search as-counting
+returns-3 c = search as_counting
 
 same-length-7 : tie.Need-same-length-7
 same-length-7 c = search rules
@@ -62,7 +62,7 @@ same-length-8 : tie.Need-same-length-8
 same-length-8 c = search rules
 
 returns-4 : tie.Need-returns-4
-returns-4 c = search as-flag
+returns-4 c = search as_flag
 
 pub behind-front-spec : {M : Type 1} → statement M
 behind-front-spec =

@@ -1,6 +1,6 @@
 -- `replayer::replay` meets its contract: a fault of the front is answered, and else the rest of the file. Assumes nothing.
 use borrow.Author.Rules.{rules}
-use Rattle.replayer.proofs.Behind.{faulty-answered, open-answered}
+use Rattle.replayer.proofs.Behind.{faulty_answered, open_answered}
 use Rattle.replayer.proofs.replay.Statement.{statement}
 use Rattle.replayer.proofs.replay.Tie as tie
 
@@ -20,7 +20,7 @@ behind-front-requires : tie.Need-behind-front-requires
 behind-front-requires c κs = search rules
 
 returns : tie.Need-returns
-returns c = search faulty-answered
+returns c = search faulty_answered
 
 same_length : tie.Need-same-length
 same_length c = search rules
@@ -29,7 +29,7 @@ same-length-2 : tie.Need-same-length-2
 same-length-2 c = search rules
 
 returns-2 : tie.Need-returns-2
-returns-2 c = search open-answered
+returns-2 c = search open_answered
 
 pub replay-spec : {M : Type 1} → statement M
 replay-spec =

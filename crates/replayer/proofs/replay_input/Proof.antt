@@ -1,6 +1,6 @@
 -- `replayer::replay_input` meets its contract: an input over the largest file is refused unread. Assumes nothing.
 use borrow.Author.Rules.{rules}
-use Rattle.replayer.proofs.Behind.{too_large, as-file}
+use Rattle.replayer.proofs.Behind.{too_large, as_file}
 use Rattle.replayer.proofs.replay_input.Statement.{statement}
 use Rattle.replayer.proofs.replay_input.Tie as tie
 
@@ -20,7 +20,7 @@ same-length-2 : tie.Need-same-length-2
 same-length-2 c = search rules
 
 returns-2 : tie.Need-returns-2
-returns-2 c = search as-file
+returns-2 c = search as_file
 
 pub replay-input-spec : {M : Type 1} → statement M
 replay-input-spec =

@@ -2,19 +2,19 @@
 use Prim.Native.Nat.{◌+◌}
 use mathlib.Core.Path.{refl}
 use native.Mathlib.Omega.{arith}
-use Rattle.rows.proofs.Bytes.{bytesAt-inside, take-one, numberAt-outside}
+use Rattle.rows.proofs.Bytes.{bytes_at_inside, take_one, number_at_outside}
 use borrow.Author.Rules.{rules}
 use Rattle.rows.proofs.get2.Statement.{statement}
 use Rattle.rows.proofs.get2.Tie as tie
 
 returns : tie.Need-returns
-returns c = let a = c.before.before.args in numberAt-outside a.s.now a.at 2 (omega arith)
+returns c = let a = c.before.before.args in number_at_outside a.s.now a.at 2 (omega arith)
 
 sub-if2 : tie.Need-overflow-sub-if2
 sub-if2 c = search rules
 
 returns-2 : tie.Need-returns-2
-returns-2 c = let a = c.before.before.before.args in numberAt-outside a.s.now a.at 2 (omega arith)
+returns-2 c = let a = c.before.before.before.args in number_at_outside a.s.now a.at 2 (omega arith)
 
 shared-slice-read-wide2 : tie.Need-shared-slice-read-wide2
 shared-slice-read-wide2 c = search rules
@@ -43,9 +43,9 @@ returns-3 c =
     let s = a.s.now in
     let i = a.at in
     rw (
-      bytesAt-inside s i 2 (omega arith),
-      take-one s i 1 0 (i + 1) refl (omega arith),
-      take-one s (i + 1) 0 0 (i + 2) (omega arith) (omega arith),
+      bytes_at_inside s i 2 (omega arith),
+      take_one s i 1 0 (i + 1) refl (omega arith),
+      take_one s (i + 1) 0 0 (i + 2) (omega arith) (omega arith),
     )
     (omega arith)
 

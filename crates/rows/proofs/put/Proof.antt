@@ -6,8 +6,8 @@ use mathlib.Core.List.{[], ◌∷◌}
 use Prim.Native.Nat.{◌≤◌, ◌-◌, ◌+◌}
 use lib.ListN.{length, drop, get_or, length-set}
 use Rattle.rows.specs.Stores.{puts}
-use Rattle.rows.proofs.Rows.{drop-one, drop-end}
-use Rattle.rows.proofs.Stores.{whole-laid, none-laid}
+use Rattle.rows.proofs.Rows.{drop_one, drop_end}
+use Rattle.rows.proofs.Stores.{whole_laid, none_laid}
 use Rattle.rows.proofs.put.Statement.{statement}
 use Rattle.rows.proofs.put.Tie as tie
 
@@ -18,13 +18,13 @@ abbrev decreases-loop : tie.decreases-loop
 decreases-loop dst₀ at src i₀ o₀ dst i o = length src - i
 
 returns : tie.Need-returns invariant-loop decreases-loop
-returns c = let a = c.before.args in none-laid a.dst.now a.at a.src.now (omega arith)
+returns c = let a = c.before.args in none_laid a.dst.now a.at a.src.now (omega arith)
 
 sub-if2 : tie.Need-overflow-sub-if2 invariant-loop decreases-loop
 sub-if2 c = search rules
 
 returns-2 : tie.Need-returns-2 invariant-loop decreases-loop
-returns-2 c = let a = c.before.before.args in none-laid a.dst.now a.at a.src.now (omega arith)
+returns-2 c = let a = c.before.before.args in none_laid a.dst.now a.at a.src.now (omega arith)
 
 loop-holds : tie.Need-loop-init invariant-loop decreases-loop
 loop-holds c = search rules
@@ -48,7 +48,7 @@ loop-again : tie.Need-loop-preserved invariant-loop decreases-loop
 loop-again c =
     let l = c.before.before.loop in
     let s = c.before.before.before.before.before.args.src.now in
-    let k : drop l.i s ≡ get_or s l.i 0 ∷ drop (l.i + 1) s = drop-one s l.i 0 (omega arith) in
+    let k : drop l.i s ≡ get_or s l.i 0 ∷ drop (l.i + 1) s = drop_one s l.i 0 (omega arith) in
     (omega arith, simp length-set l.invariant.1, omega arith, simp length-set l.invariant.3, rw k at l.invariant.4)
 
 same_length : tie.Need-same-length invariant-loop decreases-loop
@@ -59,8 +59,8 @@ returns-3 c =
     let l = c.before.loop in
     let a = c.before.before.before.before.args in
     let s = a.src.now in
-    let e : drop l.i s ≡ [] = drop-end s l.i (omega arith) in
-    whole-laid a.dst.now a.at s _ _ (omega arith) (omega arith) (rw e at l.invariant.4)
+    let e : drop l.i s ≡ [] = drop_end s l.i (omega arith) in
+    whole_laid a.dst.now a.at s _ _ (omega arith) (omega arith) (rw e at l.invariant.4)
 
 pub put_spec : {M : Type 1} → statement M
 put_spec =

@@ -4,19 +4,19 @@ use mathlib.Core.Path.{refl}
 use native.Mathlib.Omega.{arith}
 use lib.ListN.{length-set}
 use Rattle.rows.specs.Bytes.{big}
-use Rattle.rows.proofs.Stores.{whole-laid, none-laid}
+use Rattle.rows.proofs.Stores.{whole_laid, none_laid}
 use borrow.Author.Rules.{rules}
 use Rattle.rows.proofs.put_last4.Statement.{statement}
 use Rattle.rows.proofs.put_last4.Tie as tie
 
 returns : tie.Need-returns
-returns c = let a = c.before.args in none-laid a.dst.now a.at (big 4 a.x) (omega arith)
+returns c = let a = c.before.args in none_laid a.dst.now a.at (big 4 a.x) (omega arith)
 
 sub-if2 : tie.Need-overflow-sub-if2
 sub-if2 c = search rules
 
 returns-2 : tie.Need-returns-2
-returns-2 c = let a = c.before.before.args in none-laid a.dst.now a.at (big 4 a.x) (omega arith)
+returns-2 c = let a = c.before.before.args in none_laid a.dst.now a.at (big 4 a.x) (omega arith)
 
 cast-dst : tie.Need-overflow-cast-dst
 cast-dst c = search rules
@@ -58,7 +58,7 @@ same_length : tie.Need-same-length
 same_length c = search rules
 
 returns-3 : tie.Need-returns-3
-returns-3 c = let a = c.before.before.args in whole-laid a.dst.now a.at (big 4 a.x) _ _ (omega arith) refl (rw (add_assoc a.at 1 1, add_assoc a.at 2 1))
+returns-3 c = let a = c.before.before.args in whole_laid a.dst.now a.at (big 4 a.x) _ _ (omega arith) refl (rw (add_assoc a.at 1 1, add_assoc a.at 2 1))
 
 pub put-last4-spec : {M : Type 1} → statement M
 put-last4-spec =

@@ -1,7 +1,7 @@
 -- `single_call::counting_call` meets its contract: a state of another length is malformed, a refusal leaves it, and the state after an accepted step is laid over it. Assumes nothing.
 use borrow.Author.Rules.{rules}
-use Rattle.single_call.specs.Call.{countingRaw}
-use Rattle.single_call.proofs.Calling.{wrong-length, counting-refused, counting-accepted}
+use Rattle.single_call.specs.Call.{counting_raw}
+use Rattle.single_call.proofs.Calling.{wrong_length_lem, counting_refused, counting_accepted}
 use Rattle.single_call.proofs.counting_call.Statement.{statement}
 use Rattle.single_call.proofs.counting_call.Tie as tie
 
@@ -9,7 +9,7 @@ quiet-requires : tie.Need-quiet-requires
 quiet-requires c κs = search rules
 
 returns : tie.Need-returns
-returns c = search (wrong-length countingRaw)
+returns c = search (wrong_length_lem counting_raw)
 
 counting-from-requires : tie.Need-counting-from-requires
 counting-from-requires c κs = search rules
@@ -24,7 +24,7 @@ same-length-2 : tie.Need-same-length-2
 same-length-2 c = search rules
 
 returns-2 : tie.Need-returns-2
-returns-2 c = search counting-refused
+returns-2 c = search counting_refused
 
 put-counting-requires : tie.Need-put-counting-requires
 put-counting-requires c κs = search rules
@@ -36,7 +36,7 @@ same-length-4 : tie.Need-same-length-4
 same-length-4 c = search rules
 
 returns-3 : tie.Need-returns-3
-returns-3 c = search counting-accepted
+returns-3 c = search counting_accepted
 
 pub counting-call-spec : {M : Type 1} → statement M
 counting-call-spec =

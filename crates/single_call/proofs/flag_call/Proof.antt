@@ -1,7 +1,7 @@
 -- `single_call::flag_call` meets its contract: a state of another length is malformed, a refusal leaves it, and the state after an accepted step is laid over it. Assumes nothing.
 use borrow.Author.Rules.{rules}
-use Rattle.single_call.specs.Call.{flagRaw}
-use Rattle.single_call.proofs.Calling.{wrong-length, flag-refused, flag-accepted}
+use Rattle.single_call.specs.Call.{flag_raw}
+use Rattle.single_call.proofs.Calling.{wrong_length_lem, flag_refused, flag_accepted}
 use Rattle.single_call.proofs.flag_call.Statement.{statement}
 use Rattle.single_call.proofs.flag_call.Tie as tie
 
@@ -9,7 +9,7 @@ quiet-requires : tie.Need-quiet-requires
 quiet-requires c κs = search rules
 
 returns : tie.Need-returns
-returns c = search (wrong-length flagRaw)
+returns c = search (wrong_length_lem flag_raw)
 
 flag-from-requires : tie.Need-flag-from-requires
 flag-from-requires c κs = search rules
@@ -24,7 +24,7 @@ same-length-2 : tie.Need-same-length-2
 same-length-2 c = search rules
 
 returns-2 : tie.Need-returns-2
-returns-2 c = search flag-refused
+returns-2 c = search flag_refused
 
 put-flag-requires : tie.Need-put-flag-requires
 put-flag-requires c κs = search rules
@@ -36,7 +36,7 @@ same-length-4 : tie.Need-same-length-4
 same-length-4 c = search rules
 
 returns-3 : tie.Need-returns-3
-returns-3 c = search (flag-accepted, rules)
+returns-3 c = search (flag_accepted, rules)
 
 pub flag-call-spec : {M : Type 1} → statement M
 flag-call-spec =

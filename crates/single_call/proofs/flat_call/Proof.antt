@@ -1,8 +1,8 @@
 -- `single_call::flat_call` meets its contract: a state of another length is malformed, a refusal leaves it, and the state after an accepted step is laid over it. Assumes nothing.
 use borrow.Author.Rules.{rules}
-use Rattle.rows.proofs.Rows.{row-long}
-use Rattle.single_call.specs.Call.{flatRaw}
-use Rattle.single_call.proofs.Calling.{wrong-length, flat-refused, flat-accepted}
+use Rattle.rows.proofs.Rows.{row_long}
+use Rattle.single_call.specs.Call.{flat_raw}
+use Rattle.single_call.proofs.Calling.{wrong_length_lem, flat_refused, flat_accepted}
 use Rattle.single_call.proofs.flat_call.Statement.{statement}
 use Rattle.single_call.proofs.flat_call.Tie as tie
 
@@ -10,7 +10,7 @@ quiet-requires : tie.Need-quiet-requires
 quiet-requires c κs = search rules
 
 returns : tie.Need-returns
-returns c = search (wrong-length flatRaw)
+returns c = search (wrong_length_lem flat_raw)
 
 flat-from-requires : tie.Need-flat-from-requires
 flat-from-requires c κs = search rules
@@ -25,7 +25,7 @@ same-length-2 : tie.Need-same-length-2
 same-length-2 c = search rules
 
 returns-2 : tie.Need-returns-2
-returns-2 c = search flat-refused
+returns-2 c = search flat_refused
 
 put-flat-requires : tie.Need-put-flat-requires
 put-flat-requires c κs = search rules
@@ -40,7 +40,7 @@ returns-3 : tie.Need-returns-3
 -- of the state that the step handed back: its rows are whole
 returns-3 c =
     let z = c.before.before.before.before.before.before.before.before.before.single.type-inv.1.1.0.1.1 in
-    search (flat-accepted, rules, row-long, z.0, z.1.0)
+    search (flat_accepted, rules, row_long, z.0, z.1.0)
 
 pub flat-call-spec : {M : Type 1} → statement M
 flat-call-spec =

@@ -1,6 +1,6 @@
 -- `single_call::single_call` meets its contract: one whole step goes to its kind's function, anything else is malformed. Assumes nothing.
 use borrow.Author.Rules.{rules}
-use Rattle.single_call.proofs.Calling.{none-asked, no_kind, flat-kind, lock-kind, counting-kind, flag-kind}
+use Rattle.single_call.proofs.Calling.{none_asked, no_kind, flat_kind, lock_kind, counting_kind, flag_kind}
 use Rattle.single_call.proofs.single_call.Statement.{statement}
 use Rattle.single_call.proofs.single_call.Tie as tie
 
@@ -26,7 +26,7 @@ same-length-2 : tie.Need-same-length-2
 same-length-2 c = search rules
 
 returns : tie.Need-returns
-returns c = search flat-kind
+returns c = search flat_kind
 
 lock-call-requires : tie.Need-lock-call-requires
 lock-call-requires c κs = search rules
@@ -38,7 +38,7 @@ same-length-4 : tie.Need-same-length-4
 same-length-4 c = search rules
 
 returns-2 : tie.Need-returns-2
-returns-2 c = search lock-kind
+returns-2 c = search lock_kind
 
 counting-call-requires : tie.Need-counting-call-requires
 counting-call-requires c κs = search rules
@@ -50,7 +50,7 @@ same-length-6 : tie.Need-same-length-6
 same-length-6 c = search rules
 
 returns-3 : tie.Need-returns-3
-returns-3 c = search counting-kind
+returns-3 c = search counting_kind
 
 flag-call-requires : tie.Need-flag-call-requires
 flag-call-requires c κs = search rules
@@ -62,13 +62,13 @@ same-length-8 : tie.Need-same-length-8
 same-length-8 c = search rules
 
 returns-4 : tie.Need-returns-4
-returns-4 c = search flag-kind
+returns-4 c = search flag_kind
 
 quiet-requires-2 : tie.Need-quiet-requires-2
 quiet-requires-2 c κs = search rules
 
 returns-5 : tie.Need-returns-5
-returns-5 c = search none-asked
+returns-5 c = search none_asked
 
 returns-6 : tie.Need-returns-6
 returns-6 c = search no_kind

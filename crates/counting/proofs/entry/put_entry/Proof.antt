@@ -1,7 +1,7 @@
 -- `counting::entry::put_entry` meets its contract: each case has its tag. Assumes nothing.
 use borrow.Author.Rules.{rules}
 use Rattle.rows.proofs.Stores.{laid_same}
-use Rattle.counting.specs.Image.{entryBytes}
+use Rattle.counting.specs.Image.{entry_bytes}
 use Rattle.counting.proofs.entry.put_entry.Statement.{statement}
 use Rattle.counting.proofs.entry.put_entry.Tie as tie
 
@@ -21,13 +21,13 @@ same_length : tie.Need-same-length
 same_length c = search rules
 
 returns : tie.Need-returns
-returns c = search (laid_same entryBytes)
+returns c = search (laid_same entry_bytes)
 
 same-length-2 : tie.Need-same-length-2
 same-length-2 c = search rules
 
 returns-2 : tie.Need-returns-2
-returns-2 c = search (laid_same entryBytes)
+returns-2 c = search (laid_same entry_bytes)
 
 pub put-entry-spec : {M : Type 1} → statement M
 put-entry-spec =

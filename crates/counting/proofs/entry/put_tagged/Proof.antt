@@ -2,7 +2,7 @@
 use native.Mathlib.Omega.{arith}
 use lib.ListN.{length-set}
 use Rattle.rows.proofs.Stores.{too_short, too_far}
-use Rattle.counting.proofs.Writes.{tagged-laid, tagged-length}
+use Rattle.counting.proofs.Writes.{tagged_laid, tagged_length}
 use borrow.Author.Rules.{rules}
 use Rattle.counting.proofs.entry.put_tagged.Statement.{statement}
 use Rattle.counting.proofs.entry.put_tagged.Tie as tie
@@ -32,10 +32,10 @@ put4-requires : tie.Need-put4-requires
 put4-requires c κs = search rules
 
 same_length : tie.Need-same-length
-same_length c = search tagged-length
+same_length c = search tagged_length
 
 returns-3 : tie.Need-returns-3
-returns-3 c = search tagged-laid
+returns-3 c = search tagged_laid
 
 pub put-tagged-spec : {M : Type 1} → statement M
 put-tagged-spec =

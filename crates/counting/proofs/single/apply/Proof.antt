@@ -1,6 +1,6 @@
 -- `counting::single::apply` meets its contract: each arm is its step's own answer. Assumes nothing.
 use borrow.Author.Rules.{rules}
-use Rattle.counting.proofs.Stepping.{silent-step, refused-step, logged-step}
+use Rattle.counting.proofs.Stepping.{silent_step, refused_step, logged_step}
 use Rattle.counting.proofs.single.apply.Statement.{statement}
 use Rattle.counting.proofs.single.apply.Tie as tie
 
@@ -23,7 +23,7 @@ with-state-requires-2 : tie.Need-with-state-requires-2
 with-state-requires-2 c κs = search rules
 
 returns : tie.Need-returns
-returns c = search refused-step
+returns c = search refused_step
 
 put-entry-requires : tie.Need-put-entry-requires
 put-entry-requires c κs = search rules
@@ -41,7 +41,7 @@ with-state-requires-4 : tie.Need-with-state-requires-4
 with-state-requires-4 c κs = search rules
 
 returns-2 : tie.Need-returns-2
-returns-2 c = search refused-step
+returns-2 c = search refused_step
 
 put-entry-requires-2 : tie.Need-put-entry-requires-2
 put-entry-requires-2 c κs = search rules
@@ -59,22 +59,22 @@ with-state-requires-6 : tie.Need-with-state-requires-6
 with-state-requires-6 c κs = search rules
 
 returns-3 : tie.Need-returns-3
-returns-3 c = search silent-step
+returns-3 c = search silent_step
 
 same_length : tie.Need-same-length
 same_length c = search rules
 
 returns-4 : tie.Need-returns-4
-returns-4 c = search logged-step
+returns-4 c = search logged_step
 
 same-length-2 : tie.Need-same-length-2
 same-length-2 c = search rules
 
 returns-5 : tie.Need-returns-5
-returns-5 c = search logged-step
+returns-5 c = search logged_step
 
 returns-6 : tie.Need-returns-6
-returns-6 c = search silent-step
+returns-6 c = search silent_step
 
 pub apply-spec : {M : Type 1} → statement M
 apply-spec =

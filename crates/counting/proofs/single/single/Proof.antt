@@ -1,6 +1,6 @@
 -- `counting::single::single` meets its contract: a step of this kind is tested, one of another is refused. Assumes nothing.
 use borrow.Author.Rules.{rules}
-use Rattle.machine.proofs.Answering.{own-step, foreign}
+use Rattle.machine.proofs.Answering.{own_step, foreign}
 use Rattle.counting.specs.Single.{stepper}
 use Rattle.counting.proofs.single.single.Statement.{statement}
 use Rattle.counting.proofs.single.single.Tie as tie
@@ -39,7 +39,7 @@ same_length : tie.Need-same-length
 same_length c = search rules
 
 returns-3 : tie.Need-returns-3
-returns-3 c = search (own-step stepper)
+returns-3 c = search (own_step stepper)
 
 returns-4 : tie.Need-returns-4
 returns-4 c = search (foreign stepper)

@@ -1,11 +1,11 @@
 -- `counting::state::image` meets its contract: four pieces, each laid behind the one before it. Assumes nothing.
-use Rattle.counting.proofs.Writes.{image-short, image-laid}
+use Rattle.counting.proofs.Writes.{image_short, image_laid}
 use borrow.Author.Rules.{rules}
 use Rattle.counting.proofs.state.image.Statement.{statement}
 use Rattle.counting.proofs.state.image.Tie as tie
 
 returns : tie.Need-returns
-returns c = search image-short
+returns c = search image_short
 
 cast-put1 : tie.Need-overflow-cast-put1
 cast-put1 c = search rules
@@ -26,7 +26,7 @@ same_length : tie.Need-same-length
 same_length c = search rules
 
 returns-2 : tie.Need-returns-2
-returns-2 c = search image-laid
+returns-2 c = search image_laid
 
 pub image-spec : {M : Type 1} → statement M
 image-spec =

@@ -3,7 +3,7 @@ use native.Mathlib.Omega.{arith}
 use borrow.Author.Rules.{rules}
 use lib.ListN.{length-set}
 use Rattle.rows.proofs.Stores.{too_short, too_far}
-use Rattle.flag.proofs.Writes.{flip-laid}
+use Rattle.flag.proofs.Writes.{flip_laid}
 use Rattle.flag.proofs.entry.put_flip.Statement.{statement}
 use Rattle.flag.proofs.entry.put_flip.Tie as tie
 
@@ -38,7 +38,7 @@ same_length : tie.Need-same-length
 same_length c = search rules
 
 returns-3 : tie.Need-returns-3
-returns-3 c = search flip-laid
+returns-3 c = search flip_laid
 
 pub put-flip-spec : {M : Type 1} → statement M
 put-flip-spec =

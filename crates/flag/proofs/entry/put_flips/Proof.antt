@@ -1,6 +1,6 @@
 -- `flag::entry::put_flips` meets its contract: the offered flip is laid down first, then the mover's. Assumes nothing.
 use borrow.Author.Rules.{rules}
-use Rattle.flag.proofs.Writes.{flips-nobody, flips-mover, flips-short, flips-past, flips-both}
+use Rattle.flag.proofs.Writes.{flips_nobody, flips_mover, flips_short, flips_past, flips_both}
 use Rattle.flag.proofs.entry.put_flips.Statement.{statement}
 use Rattle.flag.proofs.entry.put_flips.Tie as tie
 
@@ -17,13 +17,13 @@ enum-told-3 : tie.Need-enum-told-3
 enum-told-3 c = search rules
 
 returns : tie.Need-returns
-returns c = search flips-short
+returns c = search flips_short
 
 sub-if2 : tie.Need-overflow-sub-if2
 sub-if2 c = search rules
 
 returns-2 : tie.Need-returns-2
-returns-2 c = search flips-past
+returns-2 c = search flips_past
 
 offerer-requires : tie.Need-offerer-requires
 offerer-requires c κs = search rules
@@ -35,19 +35,19 @@ put-flip-requires-3 : tie.Need-put-flip-requires-3
 put-flip-requires-3 c κs = search rules
 
 returns-3 : tie.Need-returns-3
-returns-3 c = search flips-nobody
+returns-3 c = search flips_nobody
 
 same_length : tie.Need-same-length
 same_length c = search rules
 
 returns-4 : tie.Need-returns-4
-returns-4 c = search flips-mover
+returns-4 c = search flips_mover
 
 same-length-2 : tie.Need-same-length-2
 same-length-2 c = search rules
 
 returns-5 : tie.Need-returns-5
-returns-5 c = search flips-both
+returns-5 c = search flips_both
 
 pub put-flips-spec : {M : Type 1} → statement M
 put-flips-spec =

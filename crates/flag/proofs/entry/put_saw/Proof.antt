@@ -3,7 +3,7 @@ use native.Mathlib.Omega.{arith}
 use borrow.Author.Rules.{rules}
 use lib.ListN.{length-set}
 use Rattle.rows.proofs.Stores.{too_short, too_far}
-use Rattle.flag.proofs.Writes.{saw-laid}
+use Rattle.flag.proofs.Writes.{saw_laid}
 use Rattle.flag.proofs.entry.put_saw.Statement.{statement}
 use Rattle.flag.proofs.entry.put_saw.Tie as tie
 
@@ -47,7 +47,7 @@ same_length : tie.Need-same-length
 same_length c = search rules
 
 returns-3 : tie.Need-returns-3
-returns-3 c = search saw-laid
+returns-3 c = search saw_laid
 
 pub put-saw-spec : {M : Type 1} → statement M
 put-saw-spec =

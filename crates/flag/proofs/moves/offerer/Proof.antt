@@ -2,7 +2,7 @@
 use Prim.Native.Nat.{◌-◌}
 use borrow.Author.Rules.{rules}
 use Rattle.schedule.specs.Limits as limit
-use Rattle.flag.proofs.Looking.{Looking, looking-begins, looking-stops, looking-more, looking-ends}
+use Rattle.flag.proofs.Looking.{Looking, looking_begins, looking_stops, looking_more, looking_ends}
 use Rattle.flag.proofs.moves.offerer.Statement.{statement}
 use Rattle.flag.proofs.moves.offerer.Tie as tie
 
@@ -13,7 +13,7 @@ abbrev decreases-loop : tie.decreases-loop
 decreases-loop places i₀ i = limit.threads - i
 
 loop-holds : tie.Need-loop-init invariant-loop decreases-loop
-loop-holds c = looking-begins _ (search rules)
+loop-holds c = looking_begins _ (search rules)
 
 array-read-if1 : tie.Need-array-read-if1 invariant-loop decreases-loop
 array-read-if1 c = search rules
@@ -22,7 +22,7 @@ cast-result : tie.Need-overflow-cast-result invariant-loop decreases-loop
 cast-result c = search rules
 
 returns : tie.Need-returns invariant-loop decreases-loop
-returns c = search looking-stops
+returns c = search looking_stops
 
 add-i : tie.Need-overflow-add-i invariant-loop decreases-loop
 add-i c = search rules
@@ -31,13 +31,13 @@ loop-less : tie.Need-loop-smaller invariant-loop decreases-loop
 loop-less c = search rules
 
 loop-again : tie.Need-loop-preserved invariant-loop decreases-loop
-loop-again c = search looking-more
+loop-again c = search looking_more
 
 cast-result-2 : tie.Need-overflow-cast-result-2 invariant-loop decreases-loop
 cast-result-2 c = search rules
 
 returns-2 : tie.Need-returns-2 invariant-loop decreases-loop
-returns-2 c = search looking-ends
+returns-2 c = search looking_ends
 
 pub offerer-spec : {M : Type 1} → statement M
 offerer-spec =

@@ -1,6 +1,6 @@
 -- `flag::single::apply` meets its contract: each arm is its step's own answer. Assumes nothing.
 use borrow.Author.Rules.{rules}
-use Rattle.machine.proofs.Answering.{matched, matched-silent}
+use Rattle.machine.proofs.Answering.{matched, matched_silent}
 use Rattle.flag.specs.Single.{stepper}
 use Rattle.flag.proofs.single.apply.Statement.{statement}
 use Rattle.flag.proofs.single.apply.Tie as tie
@@ -24,7 +24,7 @@ read-requires : tie.Need-read-requires
 read-requires c κs = search rules
 
 returns : tie.Need-returns
-returns c = search (matched-silent stepper)
+returns c = search (matched_silent stepper)
 
 same_length : tie.Need-same-length
 same_length c = search rules

@@ -1,6 +1,6 @@
 -- `flag::single::single` meets its contract: a step of this kind is tested, one of another is refused. Assumes nothing.
 use borrow.Author.Rules.{rules}
-use Rattle.machine.proofs.Answering.{own-step, foreign}
+use Rattle.machine.proofs.Answering.{own_step, foreign}
 use Rattle.flag.specs.Single.{stepper}
 use Rattle.flag.proofs.single.single.Statement.{statement}
 use Rattle.flag.proofs.single.single.Tie as tie
@@ -42,7 +42,7 @@ same_length : tie.Need-same-length
 same_length c = search rules
 
 returns-4 : tie.Need-returns-4
-returns-4 c = search (own-step stepper)
+returns-4 c = search (own_step stepper)
 
 pub single-spec : {M : Type 1} → statement M
 single-spec =

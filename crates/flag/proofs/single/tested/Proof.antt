@@ -1,7 +1,7 @@
 -- `flag::single::tested` meets its contract: the log's room and the state's soundness come before the machine's own tests. Assumes nothing.
 use mathlib.Core.Path.{sym, ◌∙◌}
 use borrow.Author.Rules.{rules}
-use Rattle.machine.proofs.Answering.{short-log, not_sound}
+use Rattle.machine.proofs.Answering.{short_log, not_sound}
 use Rattle.flag.specs.Single.{stepper}
 use Rattle.flag.proofs.single.tested.Statement.{statement}
 use Rattle.flag.proofs.single.tested.Tie as tie
@@ -10,7 +10,7 @@ quiet-requires : tie.Need-quiet-requires
 quiet-requires c κs = search rules
 
 returns : tie.Need-returns
-returns c = search (short-log stepper)
+returns c = search (short_log stepper)
 
 is-sound-requires : tie.Need-is-sound-requires
 is-sound-requires c κs = search rules

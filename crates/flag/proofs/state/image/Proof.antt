@@ -1,6 +1,6 @@
 -- `flag::state::image` meets its contract: its three pieces are laid down one after the other, or none is. Assumes nothing.
 use borrow.Author.Rules.{rules}
-use Rattle.flag.proofs.Writes.{used-fits, used-inside, used-long, image-short, image-laid}
+use Rattle.flag.proofs.Writes.{used_fits, used_inside, used_long, image_short, image_laid}
 use Rattle.flag.proofs.state.image.Statement.{statement}
 use Rattle.flag.proofs.state.image.Tie as tie
 
@@ -8,10 +8,10 @@ in-use-requires : tie.Need-in-use-requires
 in-use-requires c κs = search rules
 
 add-if1 : tie.Need-overflow-add-if1
-add-if1 c = search (rules, used-fits)
+add-if1 c = search (rules, used_fits)
 
 returns : tie.Need-returns
-returns c = search (rules, image-short)
+returns c = search (rules, image_short)
 
 cast-put1 : tie.Need-overflow-cast-put1
 cast-put1 c = search rules
@@ -23,10 +23,10 @@ put1-requires-2 : tie.Need-put1-requires-2
 put1-requires-2 c κs = search rules
 
 array-share-prefix-places : tie.Need-array-share-prefix-places
-array-share-prefix-places c = search (rules, used-inside)
+array-share-prefix-places c = search (rules, used_inside)
 
 slice-aggregate-put : tie.Need-slice-aggregate-put
-slice-aggregate-put c = search (rules, used-long)
+slice-aggregate-put c = search (rules, used_long)
 
 put-requires : tie.Need-put-requires
 put-requires c κs = search rules
@@ -35,7 +35,7 @@ same_length : tie.Need-same-length
 same_length c = search rules
 
 returns-2 : tie.Need-returns-2
-returns-2 c = search (rules, image-laid)
+returns-2 c = search (rules, image_laid)
 
 pub image-spec : {M : Type 1} → statement M
 image-spec =

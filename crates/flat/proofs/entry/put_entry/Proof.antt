@@ -3,7 +3,7 @@ use native.Mathlib.Omega.{arith}
 use borrow.Author.Rules.{rules}
 use lib.ListN.{length-set}
 use Rattle.rows.proofs.Stores.{too_short, too_far}
-use Rattle.flat.proofs.Writes.{entry-laid, entry_length}
+use Rattle.flat.proofs.Writes.{entry_laid, entry_length}
 use Rattle.flat.proofs.entry.put_entry.Statement.{statement}
 use Rattle.flat.proofs.entry.put_entry.Tie as tie
 
@@ -38,7 +38,7 @@ same_length : tie.Need-same-length
 same_length c = search entry_length
 
 returns-3 : tie.Need-returns-3
-returns-3 c = search entry-laid
+returns-3 c = search entry_laid
 
 pub put-entry-spec : {M : Type 1} → statement M
 put-entry-spec =

@@ -1,6 +1,6 @@
 -- `flat::single::apply` meets its contract: each arm is its step's own answer. Assumes nothing.
 use borrow.Author.Rules.{rules}
-use Rattle.machine.proofs.Answering.{matched, matched-silent}
+use Rattle.machine.proofs.Answering.{matched, matched_silent}
 use Rattle.flat.specs.Single.{stepper}
 use Rattle.flat.proofs.single.apply.Statement.{statement}
 use Rattle.flat.proofs.single.apply.Tie as tie
@@ -54,7 +54,7 @@ combiner-go-to-collecting-requires : tie.Need-combiner-go-to-collecting-requires
 combiner-go-to-collecting-requires c κs = search rules
 
 returns : tie.Need-returns
-returns c = search (matched-silent stepper)
+returns c = search (matched_silent stepper)
 
 same_length : tie.Need-same-length
 same_length c = search rules
@@ -63,22 +63,22 @@ returns-2 : tie.Need-returns-2
 returns-2 c = search (matched stepper)
 
 returns-3 : tie.Need-returns-3
-returns-3 c = search (matched-silent stepper)
+returns-3 c = search (matched_silent stepper)
 
 returns-4 : tie.Need-returns-4
-returns-4 c = search (matched-silent stepper)
+returns-4 c = search (matched_silent stepper)
 
 returns-5 : tie.Need-returns-5
-returns-5 c = search (matched-silent stepper)
+returns-5 c = search (matched_silent stepper)
 
 returns-6 : tie.Need-returns-6
-returns-6 c = search (matched-silent stepper)
+returns-6 c = search (matched_silent stepper)
 
 returns-7 : tie.Need-returns-7
-returns-7 c = search (matched-silent stepper)
+returns-7 c = search (matched_silent stepper)
 
 returns-8 : tie.Need-returns-8
-returns-8 c = search (matched-silent stepper)
+returns-8 c = search (matched_silent stepper)
 
 pub apply-spec : {M : Type 1} → statement M
 apply-spec =

@@ -1,9 +1,9 @@
 -- `flat::single::combiner_send` meets its contract: the combiner's tests, then the element at the cursor, which soundness puts inside the row. Assumes nothing.
 use borrow.Author.Rules.{rules}
-use Rattle.machine.proofs.Answering.{quiet-refused, quiet-fair}
+use Rattle.machine.proofs.Answering.{quiet_refused, quiet_fair}
 use Rattle.flat.specs.Single.{stepper}
-use Rattle.flat.proofs.Moved.{answer-inside, answer-fits}
-use Rattle.flat.proofs.Arms.{stopped, combiner-send-code, combiner-send-fair}
+use Rattle.flat.proofs.Moved.{answer_inside, answer_fits}
+use Rattle.flat.proofs.Arms.{stopped, combiner_send_code, combiner_send_fair}
 use Rattle.flat.proofs.single.combiner_send.Statement.{statement}
 use Rattle.flat.proofs.single.combiner_send.Tie as tie
 
@@ -14,7 +14,7 @@ quiet-requires : tie.Need-quiet-requires
 quiet-requires c κs = search rules
 
 returns : tie.Need-returns
-returns c = search (quiet-refused stepper, stopped)
+returns c = search (quiet_refused stepper, stopped)
 
 cast-i : tie.Need-overflow-cast-i
 cast-i c = search rules
@@ -23,13 +23,13 @@ mul-c : tie.Need-overflow-mul-c
 mul-c c = search rules
 
 element-copy-out-c : tie.Need-element-copy-out-c
-element-copy-out-c c = search answer-inside
+element-copy-out-c c = search answer_inside
 
 mul-e : tie.Need-overflow-mul-e
 mul-e c = search rules
 
 element-copy-out-e : tie.Need-element-copy-out-e
-element-copy-out-e c = search answer-inside
+element-copy-out-e c = search answer_inside
 
 combiner-send-requires : tie.Need-combiner-send-requires
 combiner-send-requires c κs = search rules
@@ -38,22 +38,22 @@ quiet-requires-2 : tie.Need-quiet-requires-2
 quiet-requires-2 c κs = search rules
 
 returns-2 : tie.Need-returns-2
-returns-2 c = search (quiet-refused stepper, combiner-send-code)
+returns-2 c = search (quiet_refused stepper, combiner_send_code)
 
 mul-d : tie.Need-overflow-mul-d
 mul-d c = search rules
 
 element-set-from-d : tie.Need-element-set-from-d
-element-set-from-d c = search answer-inside
+element-set-from-d c = search answer_inside
 
 add-after : tie.Need-overflow-add-after
-add-after c = search answer-fits
+add-after c = search answer_fits
 
 quiet-requires-3 : tie.Need-quiet-requires-3
 quiet-requires-3 c κs = search rules
 
 returns-3 : tie.Need-returns-3
-returns-3 c = search (quiet-fair stepper, combiner-send-fair)
+returns-3 c = search (quiet_fair stepper, combiner_send_fair)
 
 pub combiner-send-spec : {M : Type 1} → statement M
 combiner-send-spec =

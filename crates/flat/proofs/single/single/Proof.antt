@@ -1,6 +1,6 @@
 -- `flat::single::single` meets its contract: a step of this kind is tested, any other is malformed. Assumes nothing.
 use borrow.Author.Rules.{rules}
-use Rattle.machine.proofs.Answering.{own-step, foreign}
+use Rattle.machine.proofs.Answering.{own_step, foreign}
 use Rattle.flat.specs.Single.{stepper}
 use Rattle.flat.proofs.single.single.Statement.{statement}
 use Rattle.flat.proofs.single.single.Tie as tie
@@ -33,7 +33,7 @@ same_length : tie.Need-same-length
 same_length c = search rules
 
 returns : tie.Need-returns
-returns c = search (own-step stepper)
+returns c = search (own_step stepper)
 
 returns-2 : tie.Need-returns-2
 returns-2 c = search (foreign stepper)

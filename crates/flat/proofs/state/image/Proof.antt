@@ -1,7 +1,7 @@
 -- `flat::state::image` meets its contract: nothing where the bytes do not fit, else the clients, the combiner and the elements, one behind the other. Assumes nothing.
 use borrow.Author.Rules.{rules}
-use Rattle.rows.proofs.Rows.{row-long}
-use Rattle.flat.proofs.Writes.{image-short, combiner-room, elems-room, image-laid}
+use Rattle.rows.proofs.Rows.{row_long}
+use Rattle.flat.proofs.Writes.{image_short, combiner_room, elems_room, image_laid}
 use Rattle.flat.proofs.state.image.Statement.{statement}
 use Rattle.flat.proofs.state.image.Tie as tie
 
@@ -24,22 +24,22 @@ add-if1-2 : tie.Need-overflow-add-if1-2
 add-if1-2 c = search rules
 
 returns : tie.Need-returns
-returns c = search (image-short, rules, row-long)
+returns c = search (image_short, rules, row_long)
 
 put-clients-requires : tie.Need-put-clients-requires
 put-clients-requires c κs = search rules
 
 put-combiner-requires : tie.Need-put-combiner-requires
-put-combiner-requires c κs = search (combiner-room, rules, row-long)
+put-combiner-requires c κs = search (combiner_room, rules, row_long)
 
 put-elems-requires : tie.Need-put-elems-requires
-put-elems-requires c κs = (search rules, search (elems-room, rules, row-long))
+put-elems-requires c κs = (search rules, search (elems_room, rules, row_long))
 
 same_length : tie.Need-same-length
 same_length c = search rules
 
 returns-2 : tie.Need-returns-2
-returns-2 c = search (image-laid, rules, row-long)
+returns-2 c = search (image_laid, rules, row_long)
 
 pub image-spec : {M : Type 1} → statement M
 image-spec =

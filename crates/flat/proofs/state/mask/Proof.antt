@@ -1,7 +1,7 @@
 -- `flat::state::mask` meets its contract: the loop's invariant says that the mask holds the slots passed; the measure is how many clients are left. Assumes nothing.
 use borrow.Author.Rules.{rules}
-use Rattle.rows.proofs.Rows.{row-long}
-use Rattle.flat.proofs.Packing.{Packing, packing-begins, packing-more, packing-ends}
+use Rattle.rows.proofs.Rows.{row_long}
+use Rattle.flat.proofs.Packing.{Packing, packing_begins, packing_more, packing_ends}
 use Rattle.flat.proofs.state.mask.Statement.{statement}
 use Rattle.flat.proofs.state.mask.Tie as tie
 
@@ -12,7 +12,7 @@ abbrev decreases-loop : tie.decreases-loop
 decreases-loop s m₀ i₀ m i = i
 
 loop-holds : tie.Need-loop-init invariant-loop decreases-loop
-loop-holds c = packing-begins _ (search (rules, row-long))
+loop-holds c = packing_begins _ (search (rules, row_long))
 
 sub-i : tie.Need-overflow-sub-i invariant-loop decreases-loop
 sub-i c = search rules
@@ -30,10 +30,10 @@ loop-less : tie.Need-loop-smaller invariant-loop decreases-loop
 loop-less c = search rules
 
 loop-again : tie.Need-loop-preserved invariant-loop decreases-loop
-loop-again c = search packing-more
+loop-again c = search packing_more
 
 returns : tie.Need-returns invariant-loop decreases-loop
-returns c = search packing-ends
+returns c = search packing_ends
 
 pub mask-spec : {M : Type 1} → statement M
 mask-spec =

@@ -1,6 +1,6 @@
 -- `flat::state::put_client` meets its contract: flag and id, the request behind them, and the response behind that. Assumes nothing.
 use borrow.Author.Rules.{rules}
-use Rattle.flat.proofs.Writes.{request-room, response-room, client-laid}
+use Rattle.flat.proofs.Writes.{request_room, response_room, client_laid}
 use Rattle.flat.proofs.state.put_client.Statement.{statement}
 use Rattle.flat.proofs.state.put_client.Tie as tie
 
@@ -14,16 +14,16 @@ put4-requires : tie.Need-put4-requires
 put4-requires c κs = search rules
 
 put-message-requires : tie.Need-put-message-requires
-put-message-requires c κs = search request-room
+put-message-requires c κs = search request_room
 
 put-message-requires-2 : tie.Need-put-message-requires-2
-put-message-requires-2 c κs = search response-room
+put-message-requires-2 c κs = search response_room
 
 same_length : tie.Need-same-length
 same_length c = search rules
 
 returns : tie.Need-returns
-returns c = search client-laid
+returns c = search client_laid
 
 pub put-client-spec : {M : Type 1} → statement M
 put-client-spec =

@@ -2,22 +2,22 @@
 use mathlib.Core.Path.{refl}
 use Prim.Native.Nat.{◌-◌}
 use borrow.Author.Rules.{rules}
-use Rattle.rows.proofs.Rows.{row-long}
+use Rattle.rows.proofs.Rows.{row_long}
 use Rattle.schedule.specs.Limits as limit
-use Rattle.flat.specs.Flat.{zeroClient}
-use Rattle.flat.specs.Image.{clientBytes}
-use Rattle.rows.proofs.Laying.{Laying, laying-begins, laying-more, laying-ends}
+use Rattle.flat.specs.Flat.{zero_client}
+use Rattle.flat.specs.Image.{client_bytes}
+use Rattle.rows.proofs.Laying.{Laying, laying_begins, laying_more, laying_ends}
 use Rattle.flat.proofs.state.put_clients.Statement.{statement}
 use Rattle.flat.proofs.state.put_clients.Tie as tie
 
 abbrev invariant-loop : tie.invariant-loop
-invariant-loop out₀ at n s i₀ p₀ out i p = Laying clientBytes zeroClient s.clients limit.clients n out₀ at out i p
+invariant-loop out₀ at n s i₀ p₀ out i p = Laying client_bytes zero_client s.clients limit.clients n out₀ at out i p
 
 abbrev decreases-loop : tie.decreases-loop
 decreases-loop out₀ at n s i₀ p₀ out i p = n - i
 
 loop-holds : tie.Need-loop-init invariant-loop decreases-loop
-loop-holds c = laying-begins clientBytes zeroClient _ _ _ _ _ (search rules) (search (rules, row-long)) (λ v. refl) (search rules)
+loop-holds c = laying_begins client_bytes zero_client _ _ _ _ _ (search rules) (search (rules, row_long)) (λ v. refl) (search rules)
 
 mul-c : tie.Need-overflow-mul-c invariant-loop decreases-loop
 mul-c c = search rules
@@ -35,13 +35,13 @@ loop-less : tie.Need-loop-smaller invariant-loop decreases-loop
 loop-less c = search rules
 
 loop-again : tie.Need-loop-preserved invariant-loop decreases-loop
-loop-again c = search laying-more
+loop-again c = search laying_more
 
 same_length : tie.Need-same-length invariant-loop decreases-loop
 same_length c = search rules
 
 returns : tie.Need-returns invariant-loop decreases-loop
-returns c = search laying-ends
+returns c = search laying_ends
 
 pub put-clients-spec : {M : Type 1} → statement M
 put-clients-spec =

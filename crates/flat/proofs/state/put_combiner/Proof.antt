@@ -1,6 +1,6 @@
 -- `flat::state::put_combiner` meets its contract: the mask and three bytes behind it. Assumes nothing.
 use borrow.Author.Rules.{rules}
-use Rattle.flat.proofs.Writes.{combiner-laid}
+use Rattle.flat.proofs.Writes.{combiner_laid}
 use Rattle.flat.proofs.state.put_combiner.Statement.{statement}
 use Rattle.flat.proofs.state.put_combiner.Tie as tie
 
@@ -26,7 +26,7 @@ same_length : tie.Need-same-length
 same_length c = search rules
 
 returns : tie.Need-returns
-returns c = search combiner-laid
+returns c = search combiner_laid
 
 pub put-combiner-spec : {M : Type 1} → statement M
 put-combiner-spec =

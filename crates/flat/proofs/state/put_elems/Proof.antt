@@ -2,22 +2,22 @@
 use mathlib.Core.Path.{refl}
 use Prim.Native.Nat.{◌-◌}
 use borrow.Author.Rules.{rules}
-use Rattle.rows.proofs.Rows.{row-long}
+use Rattle.rows.proofs.Rows.{row_long}
 use Rattle.schedule.specs.Limits as limit
-use Rattle.flat.specs.Flat.{zeroElem}
-use Rattle.flat.specs.Image.{elemBytes}
-use Rattle.rows.proofs.Laying.{Laying, laying-begins, laying-more, laying-ends}
+use Rattle.flat.specs.Flat.{zero_elem}
+use Rattle.flat.specs.Image.{elem_bytes}
+use Rattle.rows.proofs.Laying.{Laying, laying_begins, laying_more, laying_ends}
 use Rattle.flat.proofs.state.put_elems.Statement.{statement}
 use Rattle.flat.proofs.state.put_elems.Tie as tie
 
 abbrev invariant-loop : tie.invariant-loop
-invariant-loop out₀ at n s i₀ p₀ out i p = Laying elemBytes zeroElem s.elems limit.clients n out₀ at out i p
+invariant-loop out₀ at n s i₀ p₀ out i p = Laying elem_bytes zero_elem s.elems limit.clients n out₀ at out i p
 
 abbrev decreases-loop : tie.decreases-loop
 decreases-loop out₀ at n s i₀ p₀ out i p = n - i
 
 loop-holds : tie.Need-loop-init invariant-loop decreases-loop
-loop-holds c = laying-begins elemBytes zeroElem _ _ _ _ _ (search rules) (search (rules, row-long)) (λ v. refl) (search rules)
+loop-holds c = laying_begins elem_bytes zero_elem _ _ _ _ _ (search rules) (search (rules, row_long)) (λ v. refl) (search rules)
 
 mul-e : tie.Need-overflow-mul-e invariant-loop decreases-loop
 mul-e c = search rules
@@ -35,13 +35,13 @@ loop-less : tie.Need-loop-smaller invariant-loop decreases-loop
 loop-less c = search rules
 
 loop-again : tie.Need-loop-preserved invariant-loop decreases-loop
-loop-again c = search laying-more
+loop-again c = search laying_more
 
 same_length : tie.Need-same-length invariant-loop decreases-loop
 same_length c = search rules
 
 returns : tie.Need-returns invariant-loop decreases-loop
-returns c = search laying-ends
+returns c = search laying_ends
 
 pub put-elems-spec : {M : Type 1} → statement M
 put-elems-spec =

@@ -1,6 +1,6 @@
 -- `flat::state::put_message` meets its contract: the flag, and the two numbers as they are shown. Assumes nothing.
 use borrow.Author.Rules.{rules}
-use Rattle.flat.proofs.Writes.{message-laid}
+use Rattle.flat.proofs.Writes.{message_laid}
 use Rattle.flat.proofs.state.put_message.Statement.{statement}
 use Rattle.flat.proofs.state.put_message.Tie as tie
 
@@ -26,7 +26,7 @@ same_length : tie.Need-same-length
 same_length c = search rules
 
 returns : tie.Need-returns
-returns c = search message-laid
+returns c = search message_laid
 
 pub put-message-spec : {M : Type 1} → statement M
 put-message-spec =

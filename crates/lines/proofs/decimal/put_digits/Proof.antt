@@ -1,7 +1,7 @@
 -- `lines::decimal::put_digits` meets its contract: the loop's invariant says that the digits left, stored, end as all of them; the measure is how many are left. Assumes nothing.
 use Prim.Native.Nat.{◌-◌}
 use borrow.Author.Rules.{rules}
-use Rattle.lines.proofs.Spelling.{Spelling, spelling-begins, spelling-more, spelling-ends}
+use Rattle.lines.proofs.Spelling.{Spelling, spelling_begins, spelling_more, spelling_ends}
 use Rattle.lines.proofs.decimal.put_digits.Statement.{statement}
 use Rattle.lines.proofs.decimal.put_digits.Tie as tie
 
@@ -12,7 +12,7 @@ abbrev decreases-loop : tie.decreases-loop
 decreases-loop out₀ at n k i₀ rest₀ out i rest = k - i
 
 loop-holds : tie.Need-loop-init invariant-loop decreases-loop
-loop-holds c = search (rules, spelling-begins)
+loop-holds c = search (rules, spelling_begins)
 
 add-i : tie.Need-overflow-add-i invariant-loop decreases-loop
 add-i c = search rules
@@ -36,7 +36,7 @@ loop-less : tie.Need-loop-smaller invariant-loop decreases-loop
 loop-less c = search rules
 
 loop-again : tie.Need-loop-preserved invariant-loop decreases-loop
-loop-again c = search spelling-more
+loop-again c = search spelling_more
 
 add-result : tie.Need-overflow-add-result invariant-loop decreases-loop
 add-result c = search rules
@@ -45,7 +45,7 @@ same_length : tie.Need-same-length invariant-loop decreases-loop
 same_length c = search rules
 
 returns : tie.Need-returns invariant-loop decreases-loop
-returns c = search spelling-ends
+returns c = search spelling_ends
 
 pub put-digits-spec : {M : Type 1} → statement M
 put-digits-spec =

@@ -1,6 +1,6 @@
 -- `lines::hex::digit` meets its contract, by its test. Assumes nothing.
 use borrow.Author.Rules.{rules}
-use Rattle.lines.proofs.Shows.{digit_low, digit-high}
+use Rattle.lines.proofs.Shows.{digit_low, digit_high}
 use Rattle.lines.proofs.hex.digit.Statement.{statement}
 use Rattle.lines.proofs.hex.digit.Tie as tie
 
@@ -14,7 +14,7 @@ add-result-2 : tie.Need-overflow-add-result-2
 add-result-2 c = search rules
 
 returns-2 : tie.Need-returns-2
-returns-2 c = digit-high _ c.if1.false
+returns-2 c = digit_high _ c.if1.false
 
 pub digit-spec : {M : Type 1} → statement M
 digit-spec = tie.close (tie.spec add-result returns add-result-2 returns-2)

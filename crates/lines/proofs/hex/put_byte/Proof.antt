@@ -1,6 +1,6 @@
 -- `lines::hex::put_byte` meets its contract: the two digits, one behind the other. Assumes nothing.
 use borrow.Author.Rules.{rules}
-use Rattle.lines.proofs.Shows.{byte-laid}
+use Rattle.lines.proofs.Shows.{byte_laid}
 use Rattle.lines.proofs.hex.put_byte.Statement.{statement}
 use Rattle.lines.proofs.hex.put_byte.Tie as tie
 
@@ -20,7 +20,7 @@ same_length : tie.Need-same-length
 same_length c = search rules
 
 returns : tie.Need-returns
-returns c = search (rules, byte-laid)
+returns c = search (rules, byte_laid)
 
 pub put-byte-spec : {M : Type 1} → statement M
 put-byte-spec =

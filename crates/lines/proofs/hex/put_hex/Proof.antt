@@ -3,29 +3,29 @@ use mathlib.Core.Path.{refl}
 use Prim.Native.Nat.{◌-◌}
 use borrow.Author.Rules.{rules}
 use lib.ListN.{length}
-use Rattle.rows.proofs.Laying.{Laying, laying-begins, laying-more, laying-ends}
-use Rattle.lines.specs.Hex.{hexByte}
-use Rattle.lines.proofs.Shows.{hex-far, hex-short}
+use Rattle.rows.proofs.Laying.{Laying, laying_begins, laying_more, laying_ends}
+use Rattle.lines.specs.Hex.{hex_byte}
+use Rattle.lines.proofs.Shows.{hex_far, hex_short}
 use Rattle.lines.proofs.hex.put_hex.Statement.{statement}
 use Rattle.lines.proofs.hex.put_hex.Tie as tie
 
 abbrev invariant-loop : tie.invariant-loop
-invariant-loop out₀ at bytes m i₀ p₀ out i p = Laying hexByte 0 bytes (length bytes) m out₀ at out i p
+invariant-loop out₀ at bytes m i₀ p₀ out i p = Laying hex_byte 0 bytes (length bytes) m out₀ at out i p
 
 abbrev decreases-loop : tie.decreases-loop
 decreases-loop out₀ at bytes m i₀ p₀ out i p = m - i
 
 returns : tie.Need-returns invariant-loop decreases-loop
-returns c = search hex-far
+returns c = search hex_far
 
 sub-if2 : tie.Need-overflow-sub-if2 invariant-loop decreases-loop
 sub-if2 c = search rules
 
 returns-2 : tie.Need-returns-2 invariant-loop decreases-loop
-returns-2 c = search (rules, hex-short)
+returns-2 c = search (rules, hex_short)
 
 loop-holds : tie.Need-loop-init invariant-loop decreases-loop
-loop-holds c = laying-begins hexByte 0 _ _ _ _ _ (search rules) refl (λ b. refl) (search rules)
+loop-holds c = laying_begins hex_byte 0 _ _ _ _ _ (search rules) refl (λ b. refl) (search rules)
 
 shared-slice-read-put-byte : tie.Need-shared-slice-read-put-byte invariant-loop decreases-loop
 shared-slice-read-put-byte c = search rules
@@ -40,13 +40,13 @@ loop-less : tie.Need-loop-smaller invariant-loop decreases-loop
 loop-less c = search rules
 
 loop-again : tie.Need-loop-preserved invariant-loop decreases-loop
-loop-again c = search (rules, laying-more)
+loop-again c = search (rules, laying_more)
 
 same_length : tie.Need-same-length invariant-loop decreases-loop
 same_length c = search rules
 
 returns-3 : tie.Need-returns-3 invariant-loop decreases-loop
-returns-3 c = search laying-ends
+returns-3 c = search laying_ends
 
 pub put-hex-spec : {M : Type 1} → statement M
 put-hex-spec =

@@ -1,6 +1,6 @@
 -- `lines::verdict::put_verdict` meets its contract: its four pieces are laid down one behind the other. Assumes nothing.
 use borrow.Author.Rules.{rules}
-use Rattle.lines.proofs.Written.{verdict-few, verdict-laid}
+use Rattle.lines.proofs.Written.{verdict_few, verdict_laid}
 use Rattle.lines.proofs.verdict.put_verdict.Statement.{statement}
 use Rattle.lines.proofs.verdict.put_verdict.Tie as tie
 
@@ -26,7 +26,7 @@ same_length : tie.Need-same-length
 same_length c = search rules
 
 returns : tie.Need-returns
-returns c = (search (rules, verdict-laid), search (rules, verdict-few))
+returns c = (search (rules, verdict_laid), search (rules, verdict_few))
 
 pub put-verdict-spec : {M : Type 1} → statement M
 put-verdict-spec =

@@ -3,7 +3,7 @@ use native.Mathlib.Omega.{arith}
 use borrow.Author.Rules.{rules}
 use lib.ListN.{length-set}
 use Rattle.rows.proofs.Stores.{too_short, too_far}
-use Rattle.lock.proofs.Writes.{granted-laid, three-length}
+use Rattle.lock.proofs.Writes.{granted_laid, three_length}
 use Rattle.lock.proofs.entry.put_granted.Statement.{statement}
 use Rattle.lock.proofs.entry.put_granted.Tie as tie
 
@@ -38,10 +38,10 @@ put4-requires : tie.Need-put4-requires
 put4-requires c κs = search rules
 
 same_length : tie.Need-same-length
-same_length c = search three-length
+same_length c = search three_length
 
 returns-3 : tie.Need-returns-3
-returns-3 c = search granted-laid
+returns-3 c = search granted_laid
 
 pub put-granted-spec : {M : Type 1} → statement M
 put-granted-spec =

@@ -3,7 +3,7 @@ use native.Mathlib.Omega.{arith}
 use borrow.Author.Rules.{rules}
 use lib.ListN.{length-set}
 use Rattle.rows.proofs.Stores.{too_short, too_far}
-use Rattle.lock.proofs.Writes.{withdrawn-laid, two-length}
+use Rattle.lock.proofs.Writes.{withdrawn_laid, two_length}
 use Rattle.lock.proofs.entry.put_withdrawn.Statement.{statement}
 use Rattle.lock.proofs.entry.put_withdrawn.Tie as tie
 
@@ -32,10 +32,10 @@ put4-requires : tie.Need-put4-requires
 put4-requires c κs = search rules
 
 same_length : tie.Need-same-length
-same_length c = search two-length
+same_length c = search two_length
 
 returns-3 : tie.Need-returns-3
-returns-3 c = search withdrawn-laid
+returns-3 c = search withdrawn_laid
 
 pub put-withdrawn-spec : {M : Type 1} → statement M
 put-withdrawn-spec =

@@ -1,6 +1,6 @@
 -- `lock::single::apply` meets its contract: each arm is its step's own answer. Assumes nothing.
 use borrow.Author.Rules.{rules}
-use Rattle.machine.proofs.Answering.{matched, matched-silent}
+use Rattle.machine.proofs.Answering.{matched, matched_silent}
 use Rattle.lock.specs.Single.{stepper}
 use Rattle.lock.proofs.single.apply.Statement.{statement}
 use Rattle.lock.proofs.single.apply.Tie as tie
@@ -48,10 +48,10 @@ shared-release-requires : tie.Need-shared-release-requires
 shared-release-requires c κs = search rules
 
 returns : tie.Need-returns
-returns c = search (matched-silent stepper)
+returns c = search (matched_silent stepper)
 
 returns-2 : tie.Need-returns-2
-returns-2 c = search (matched-silent stepper)
+returns-2 c = search (matched_silent stepper)
 
 same_length : tie.Need-same-length
 same_length c = search rules
@@ -60,10 +60,10 @@ returns-3 : tie.Need-returns-3
 returns-3 c = search (matched stepper)
 
 returns-4 : tie.Need-returns-4
-returns-4 c = search (matched-silent stepper)
+returns-4 c = search (matched_silent stepper)
 
 returns-5 : tie.Need-returns-5
-returns-5 c = search (matched-silent stepper)
+returns-5 c = search (matched_silent stepper)
 
 same-length-2 : tie.Need-same-length-2
 same-length-2 c = search rules
@@ -72,7 +72,7 @@ returns-6 : tie.Need-returns-6
 returns-6 c = search (matched stepper)
 
 returns-7 : tie.Need-returns-7
-returns-7 c = search (matched-silent stepper)
+returns-7 c = search (matched_silent stepper)
 
 pub apply-spec : {M : Type 1} → statement M
 apply-spec =

@@ -1,9 +1,9 @@
 -- `lock::single::shared_release` meets its contract: the place's test, and then the cell, whose numbers soundness keeps in range. Assumes nothing.
 use borrow.Author.Rules.{rules}
-use Rattle.machine.proofs.Answering.{quiet-refused, quiet-fair}
+use Rattle.machine.proofs.Answering.{quiet_refused, quiet_fair}
 use Rattle.lock.specs.Single.{stepper}
-use Rattle.lock.proofs.Moved.{cell-inside}
-use Rattle.lock.proofs.Arms.{stopped, shared-release-fair}
+use Rattle.lock.proofs.Moved.{cell_inside}
+use Rattle.lock.proofs.Arms.{stopped, shared_release_fair}
 use Rattle.lock.proofs.single.shared_release.Statement.{statement}
 use Rattle.lock.proofs.single.shared_release.Tie as tie
 
@@ -14,22 +14,22 @@ quiet-requires : tie.Need-quiet-requires
 quiet-requires c κs = search rules
 
 returns : tie.Need-returns
-returns c = search (quiet-refused stepper, stopped)
+returns c = search (quiet_refused stepper, stopped)
 
 mul-c : tie.Need-overflow-mul-c
 mul-c c = search rules
 
 element-copy-out-c : tie.Need-element-copy-out-c
-element-copy-out-c c = search cell-inside
+element-copy-out-c c = search cell_inside
 
 shared-release-requires : tie.Need-shared-release-requires
 shared-release-requires c κs = search rules
 
 with-cell-requires : tie.Need-with-cell-requires
-with-cell-requires c κs = search cell-inside
+with-cell-requires c κs = search cell_inside
 
 returns-2 : tie.Need-returns-2
-returns-2 c = search (quiet-fair stepper, shared-release-fair)
+returns-2 c = search (quiet_fair stepper, shared_release_fair)
 
 pub shared-release-spec : {M : Type 1} → statement M
 shared-release-spec =

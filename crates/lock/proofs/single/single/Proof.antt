@@ -1,6 +1,6 @@
 -- `lock::single::single` meets its contract: a step of this kind is tested, one of another is refused. Assumes nothing.
 use borrow.Author.Rules.{rules}
-use Rattle.machine.proofs.Answering.{own-step, foreign}
+use Rattle.machine.proofs.Answering.{own_step, foreign}
 use Rattle.lock.specs.Single.{stepper}
 use Rattle.lock.proofs.single.single.Statement.{statement}
 use Rattle.lock.proofs.single.single.Tie as tie
@@ -36,7 +36,7 @@ same_length : tie.Need-same-length
 same_length c = search rules
 
 returns-2 : tie.Need-returns-2
-returns-2 c = search (own-step stepper)
+returns-2 c = search (own_step stepper)
 
 returns-3 : tie.Need-returns-3
 returns-3 c = search (foreign stepper)

@@ -1,7 +1,7 @@
 -- `lock::state::image` meets its contract: nothing where the bytes do not fit, else the head and the cells behind it. Assumes nothing.
 use borrow.Author.Rules.{rules}
-use Rattle.rows.proofs.Rows.{row-long}
-use Rattle.lock.proofs.Writes.{cells-room, image-short, image-laid}
+use Rattle.rows.proofs.Rows.{row_long}
+use Rattle.lock.proofs.Writes.{cells_room, image_short, image_laid}
 use Rattle.lock.proofs.state.image.Statement.{statement}
 use Rattle.lock.proofs.state.image.Tie as tie
 
@@ -15,19 +15,19 @@ add-if1 : tie.Need-overflow-add-if1
 add-if1 c = search rules
 
 returns : tie.Need-returns
-returns c = search (image-short, rules, row-long)
+returns c = search (image_short, rules, row_long)
 
 put-head-requires : tie.Need-put-head-requires
 put-head-requires c κs = search rules
 
 put-cells-requires : tie.Need-put-cells-requires
-put-cells-requires c κs = (search rules, search cells-room)
+put-cells-requires c κs = (search rules, search cells_room)
 
 same_length : tie.Need-same-length
 same_length c = search rules
 
 returns-2 : tie.Need-returns-2
-returns-2 c = search (image-laid, rules, row-long)
+returns-2 c = search (image_laid, rules, row_long)
 
 pub image-spec : {M : Type 1} → statement M
 image-spec =

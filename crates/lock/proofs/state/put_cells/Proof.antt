@@ -4,23 +4,23 @@ use Prim.Native.Nat.{◌-◌}
 use native.Mathlib.Omega.{arith}
 use borrow.Author.Rules.{rules}
 use lib.ListN.{length-set}
-use Rattle.rows.proofs.Rows.{row-long}
-use Rattle.rows.proofs.Laying.{Laying, laying-begins, laying-ends}
+use Rattle.rows.proofs.Rows.{row_long}
+use Rattle.rows.proofs.Laying.{Laying, laying_begins, laying_ends}
 use Rattle.schedule.specs.Limits as limit
-use Rattle.lock.specs.Lock.{zeroCell}
-use Rattle.lock.specs.Image.{cellBytes}
-use Rattle.lock.proofs.Writes.{cell-more}
+use Rattle.lock.specs.Lock.{zero_cell}
+use Rattle.lock.specs.Image.{cell_bytes}
+use Rattle.lock.proofs.Writes.{cell_more}
 use Rattle.lock.proofs.state.put_cells.Statement.{statement}
 use Rattle.lock.proofs.state.put_cells.Tie as tie
 
 abbrev invariant-loop : tie.invariant-loop
-invariant-loop out₀ at n s i₀ p₀ out i p = Laying cellBytes zeroCell s.cells limit.width n out₀ at out i p
+invariant-loop out₀ at n s i₀ p₀ out i p = Laying cell_bytes zero_cell s.cells limit.width n out₀ at out i p
 
 abbrev decreases-loop : tie.decreases-loop
 decreases-loop out₀ at n s i₀ p₀ out i p = n - i
 
 loop-holds : tie.Need-loop-init invariant-loop decreases-loop
-loop-holds c = laying-begins cellBytes zeroCell _ _ _ _ _ (search rules) (search (rules, row-long)) (λ v. refl) (search rules)
+loop-holds c = laying_begins cell_bytes zero_cell _ _ _ _ _ (search rules) (search (rules, row_long)) (λ v. refl) (search rules)
 
 mul-c : tie.Need-overflow-mul-c invariant-loop decreases-loop
 mul-c c = search rules
@@ -53,13 +53,13 @@ loop-less : tie.Need-loop-smaller invariant-loop decreases-loop
 loop-less c = search rules
 
 loop-again : tie.Need-loop-preserved invariant-loop decreases-loop
-loop-again c = search cell-more
+loop-again c = search cell_more
 
 same_length : tie.Need-same-length invariant-loop decreases-loop
 same_length c = search rules
 
 returns : tie.Need-returns invariant-loop decreases-loop
-returns c = search laying-ends
+returns c = search laying_ends
 
 pub put-cells-spec : {M : Type 1} → statement M
 put-cells-spec =

@@ -1,6 +1,6 @@
 -- `lock::state::put_writer` meets its contract: three bytes, one behind the other. Assumes nothing.
 use borrow.Author.Rules.{rules}
-use Rattle.lock.proofs.Writes.{writer-laid}
+use Rattle.lock.proofs.Writes.{writer_laid}
 use Rattle.lock.proofs.state.put_writer.Statement.{statement}
 use Rattle.lock.proofs.state.put_writer.Tie as tie
 
@@ -23,7 +23,7 @@ same_length : tie.Need-same-length
 same_length c = search rules
 
 returns : tie.Need-returns
-returns c = search writer-laid
+returns c = search writer_laid
 
 pub put-writer-spec : {M : Type 1} → statement M
 put-writer-spec =

@@ -1,7 +1,7 @@
 -- `raw::counting_raw::put_counting` meets its contract: nothing where the bytes do not fit, else four pieces, one behind the other. Assumes nothing.
 use borrow.Author.Rules.{rules}
 use Rattle.rows.proofs.Stores.{too_short}
-use Rattle.raw.proofs.Writes.{counting-laid}
+use Rattle.raw.proofs.Writes.{counting_laid}
 use Rattle.raw.proofs.counting_raw.put_counting.Statement.{statement}
 use Rattle.raw.proofs.counting_raw.put_counting.Tie as tie
 
@@ -27,7 +27,7 @@ same_length : tie.Need-same-length
 same_length c = search rules
 
 returns-2 : tie.Need-returns-2
-returns-2 c = search counting-laid
+returns-2 c = search counting_laid
 
 pub put-counting-spec : {M : Type 1} → statement M
 put-counting-spec =

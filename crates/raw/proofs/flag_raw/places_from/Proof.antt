@@ -3,7 +3,7 @@ use Prim.Native.Nat.{◌+◌, ◌-◌}
 use borrow.Author.Rules.{rules}
 use Rattle.schedule.specs.Limits as limit
 use Rattle.raw.specs.Raw.{byte_at}
-use Rattle.raw.proofs.Filling.{Filling, filling-begins, filling-more, filling-ends}
+use Rattle.raw.proofs.Filling.{Filling, filling_begins, filling_more, filling_ends}
 use Rattle.raw.proofs.flag_raw.places_from.Statement.{statement}
 use Rattle.raw.proofs.flag_raw.places_from.Tie as tie
 
@@ -14,7 +14,7 @@ abbrev decreases-loop : tie.decreases-loop
 decreases-loop raw places₀ k₀ places k = limit.threads - k
 
 loop-holds : tie.Need-loop-init invariant-loop decreases-loop
-loop-holds c = filling-begins _ _ _ (search rules)
+loop-holds c = filling_begins _ _ _ (search rules)
 
 add-get1 : tie.Need-overflow-add-get1 invariant-loop decreases-loop
 add-get1 c = search rules
@@ -32,10 +32,10 @@ loop-less : tie.Need-loop-smaller invariant-loop decreases-loop
 loop-less c = search rules
 
 loop-again : tie.Need-loop-preserved invariant-loop decreases-loop
-loop-again c = search filling-more
+loop-again c = search filling_more
 
 returns : tie.Need-returns invariant-loop decreases-loop
-returns c = search filling-ends
+returns c = search filling_ends
 
 pub places-from-spec : {M : Type 1} → statement M
 places-from-spec =

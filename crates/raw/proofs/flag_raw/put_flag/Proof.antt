@@ -1,11 +1,11 @@
 -- `raw::flag_raw::put_flag` meets its contract: nothing where the bytes do not fit, else three bytes and the places behind them. Assumes nothing.
 use borrow.Author.Rules.{rules}
-use Rattle.raw.proofs.Writes.{flag-short, flag-laid}
+use Rattle.raw.proofs.Writes.{flag_short, flag_laid}
 use Rattle.raw.proofs.flag_raw.put_flag.Statement.{statement}
 use Rattle.raw.proofs.flag_raw.put_flag.Tie as tie
 
 returns : tie.Need-returns
-returns c = search (flag-short, rules)
+returns c = search (flag_short, rules)
 
 put1-requires : tie.Need-put1-requires
 put1-requires c κs = search rules
@@ -29,7 +29,7 @@ same_length : tie.Need-same-length
 same_length c = search rules
 
 returns-2 : tie.Need-returns-2
-returns-2 c = search (flag-laid, rules)
+returns-2 c = search (flag_laid, rules)
 
 pub put-flag-spec : {M : Type 1} → statement M
 put-flag-spec =

@@ -1,17 +1,17 @@
 -- `raw::flags::put_flags` meets its contract: four bytes, one behind the other, or none. Assumes nothing.
 use borrow.Author.Rules.{rules}
-use Rattle.raw.proofs.Writes.{none-short, none-far, flags-laid}
+use Rattle.raw.proofs.Writes.{none_short, none_far, flags_laid}
 use Rattle.raw.proofs.flags.put_flags.Statement.{statement}
 use Rattle.raw.proofs.flags.put_flags.Tie as tie
 
 returns : tie.Need-returns
-returns c = search none-short
+returns c = search none_short
 
 sub-if2 : tie.Need-overflow-sub-if2
 sub-if2 c = search rules
 
 returns-2 : tie.Need-returns-2
-returns-2 c = search none-far
+returns-2 c = search none_far
 
 cast-put1 : tie.Need-overflow-cast-put1
 cast-put1 c = search rules
@@ -41,7 +41,7 @@ same_length : tie.Need-same-length
 same_length c = search rules
 
 returns-3 : tie.Need-returns-3
-returns-3 c = search flags-laid
+returns-3 c = search flags_laid
 
 pub put-flags-spec : {M : Type 1} → statement M
 put-flags-spec =

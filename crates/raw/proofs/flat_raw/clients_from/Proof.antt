@@ -2,19 +2,19 @@
 use Prim.Native.Nat.{◌*◌, ◌-◌}
 use borrow.Author.Rules.{rules}
 use Rattle.schedule.specs.Limits as limit
-use Rattle.raw.specs.Raw.{clientLong, clientAt}
-use Rattle.raw.proofs.Filling.{Filling, filling-begins, filling-more, filling-ends}
+use Rattle.raw.specs.Raw.{client_long, client_at}
+use Rattle.raw.proofs.Filling.{Filling, filling_begins, filling_more, filling_ends}
 use Rattle.raw.proofs.flat_raw.clients_from.Statement.{statement}
 use Rattle.raw.proofs.flat_raw.clients_from.Tie as tie
 
 abbrev invariant-loop : tie.invariant-loop
-invariant-loop raw clients₀ k₀ clients k = Filling (λ i. clientAt raw (clientLong * i)) limit.clients clients k
+invariant-loop raw clients₀ k₀ clients k = Filling (λ i. client_at raw (client_long * i)) limit.clients clients k
 
 abbrev decreases-loop : tie.decreases-loop
 decreases-loop raw clients₀ k₀ clients k = limit.clients - k
 
 loop-holds : tie.Need-loop-init invariant-loop decreases-loop
-loop-holds c = filling-begins _ _ _ (search rules)
+loop-holds c = filling_begins _ _ _ (search rules)
 
 mul-client-at : tie.Need-overflow-mul-client-at invariant-loop decreases-loop
 mul-client-at c = search rules
@@ -35,10 +35,10 @@ loop-less : tie.Need-loop-smaller invariant-loop decreases-loop
 loop-less c = search rules
 
 loop-again : tie.Need-loop-preserved invariant-loop decreases-loop
-loop-again c = search filling-more
+loop-again c = search filling_more
 
 returns : tie.Need-returns invariant-loop decreases-loop
-returns c = search filling-ends
+returns c = search filling_ends
 
 pub clients-from-spec : {M : Type 1} → statement M
 clients-from-spec =

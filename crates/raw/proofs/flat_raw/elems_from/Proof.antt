@@ -2,19 +2,19 @@
 use Prim.Native.Nat.{◌+◌, ◌*◌, ◌-◌}
 use borrow.Author.Rules.{rules}
 use Rattle.schedule.specs.Limits as limit
-use Rattle.raw.specs.Raw.{elemLong, elemsAt, elem_at}
-use Rattle.raw.proofs.Filling.{Filling, filling-begins, filling-more, filling-ends}
+use Rattle.raw.specs.Raw.{elem_long, elems_at, elem_at}
+use Rattle.raw.proofs.Filling.{Filling, filling_begins, filling_more, filling_ends}
 use Rattle.raw.proofs.flat_raw.elems_from.Statement.{statement}
 use Rattle.raw.proofs.flat_raw.elems_from.Tie as tie
 
 abbrev invariant-loop : tie.invariant-loop
-invariant-loop raw elems₀ k₀ elems k = Filling (λ i. elem_at raw (elemsAt + elemLong * i)) limit.clients elems k
+invariant-loop raw elems₀ k₀ elems k = Filling (λ i. elem_at raw (elems_at + elem_long * i)) limit.clients elems k
 
 abbrev decreases-loop : tie.decreases-loop
 decreases-loop raw elems₀ k₀ elems k = limit.clients - k
 
 loop-holds : tie.Need-loop-init invariant-loop decreases-loop
-loop-holds c = filling-begins _ _ _ (search rules)
+loop-holds c = filling_begins _ _ _ (search rules)
 
 mul-elem-at : tie.Need-overflow-mul-elem-at invariant-loop decreases-loop
 mul-elem-at c = search rules
@@ -38,10 +38,10 @@ loop-less : tie.Need-loop-smaller invariant-loop decreases-loop
 loop-less c = search rules
 
 loop-again : tie.Need-loop-preserved invariant-loop decreases-loop
-loop-again c = search filling-more
+loop-again c = search filling_more
 
 returns : tie.Need-returns invariant-loop decreases-loop
-returns c = search filling-ends
+returns c = search filling_ends
 
 pub elems-from-spec : {M : Type 1} → statement M
 elems-from-spec =

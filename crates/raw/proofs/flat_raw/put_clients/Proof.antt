@@ -2,23 +2,23 @@
 use mathlib.Core.Path.{refl}
 use Prim.Native.Nat.{◌-◌}
 use borrow.Author.Rules.{rules}
-use Rattle.rows.proofs.Rows.{row-long}
-use Rattle.rows.proofs.Laying.{Laying, laying-begins, laying-more}
+use Rattle.rows.proofs.Rows.{row_long}
+use Rattle.rows.proofs.Laying.{Laying, laying_begins, laying_more}
 use Rattle.schedule.specs.Limits as limit
-use Rattle.flat.specs.Flat.{zeroClient}
-use Rattle.raw.specs.Raw.{clientBytes}
-use Rattle.raw.proofs.Writes.{laying-all}
+use Rattle.flat.specs.Flat.{zero_client}
+use Rattle.raw.specs.Raw.{client_bytes}
+use Rattle.raw.proofs.Writes.{laying_all}
 use Rattle.raw.proofs.flat_raw.put_clients.Statement.{statement}
 use Rattle.raw.proofs.flat_raw.put_clients.Tie as tie
 
 abbrev invariant-loop : tie.invariant-loop
-invariant-loop raw₀ clients i₀ p₀ raw i p = Laying clientBytes zeroClient clients limit.clients limit.clients raw₀ 0 raw i p
+invariant-loop raw₀ clients i₀ p₀ raw i p = Laying client_bytes zero_client clients limit.clients limit.clients raw₀ 0 raw i p
 
 abbrev decreases-loop : tie.decreases-loop
 decreases-loop raw₀ clients i₀ p₀ raw i p = limit.clients - i
 
 loop-holds : tie.Need-loop-init invariant-loop decreases-loop
-loop-holds c = laying-begins clientBytes zeroClient _ _ _ _ _ (search rules) (search (rules, row-long)) (λ v. refl) (search rules)
+loop-holds c = laying_begins client_bytes zero_client _ _ _ _ _ (search rules) (search (rules, row_long)) (λ v. refl) (search rules)
 
 mul-c : tie.Need-overflow-mul-c invariant-loop decreases-loop
 mul-c c = search rules
@@ -36,13 +36,13 @@ loop-less : tie.Need-loop-smaller invariant-loop decreases-loop
 loop-less c = search rules
 
 loop-again : tie.Need-loop-preserved invariant-loop decreases-loop
-loop-again c = search laying-more
+loop-again c = search laying_more
 
 same_length : tie.Need-same-length invariant-loop decreases-loop
 same_length c = search rules
 
 returns : tie.Need-returns invariant-loop decreases-loop
-returns c = search laying-all
+returns c = search laying_all
 
 pub put-clients-spec : {M : Type 1} → statement M
 put-clients-spec =

@@ -1,6 +1,6 @@
 -- `raw::flat_raw::put_combiner` meets its contract: four bytes, one behind the other. Assumes nothing.
 use borrow.Author.Rules.{rules}
-use Rattle.raw.proofs.Writes.{combiner-laid}
+use Rattle.raw.proofs.Writes.{combiner_laid}
 use Rattle.raw.proofs.flat_raw.put_combiner.Statement.{statement}
 use Rattle.raw.proofs.flat_raw.put_combiner.Tie as tie
 
@@ -23,7 +23,7 @@ same_length : tie.Need-same-length
 same_length c = search rules
 
 returns : tie.Need-returns
-returns c = search combiner-laid
+returns c = search combiner_laid
 
 pub put-combiner-spec : {M : Type 1} → statement M
 put-combiner-spec =

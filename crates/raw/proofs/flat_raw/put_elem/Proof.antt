@@ -1,6 +1,6 @@
 -- `raw::flat_raw::put_elem` meets its contract: the id, and the flag behind it. Assumes nothing.
 use borrow.Author.Rules.{rules}
-use Rattle.raw.proofs.Writes.{elem-laid}
+use Rattle.raw.proofs.Writes.{elem_laid}
 use Rattle.raw.proofs.flat_raw.put_elem.Statement.{statement}
 use Rattle.raw.proofs.flat_raw.put_elem.Tie as tie
 
@@ -17,7 +17,7 @@ same_length : tie.Need-same-length
 same_length c = search rules
 
 returns : tie.Need-returns
-returns c = search elem-laid
+returns c = search elem_laid
 
 pub put-elem-spec : {M : Type 1} → statement M
 put-elem-spec = tie.close (tie.spec put4-requires cast-put1 put1-requires same_length returns)

@@ -1,6 +1,6 @@
 -- `raw::lock_raw::put_cell` meets its contract: three bytes, one behind the other. Assumes nothing.
 use borrow.Author.Rules.{rules}
-use Rattle.raw.proofs.Writes.{cell-laid}
+use Rattle.raw.proofs.Writes.{cell_laid}
 use Rattle.raw.proofs.lock_raw.put_cell.Statement.{statement}
 use Rattle.raw.proofs.lock_raw.put_cell.Tie as tie
 
@@ -17,7 +17,7 @@ same_length : tie.Need-same-length
 same_length c = search rules
 
 returns : tie.Need-returns
-returns c = search cell-laid
+returns c = search cell_laid
 
 pub put-cell-spec : {M : Type 1} → statement M
 put-cell-spec =

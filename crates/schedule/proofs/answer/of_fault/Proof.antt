@@ -2,14 +2,14 @@
 use mathlib.Core.Path.{◌≡◌, ◌∙◌}
 use Prim.Native.Nat.{ℕ}
 use borrow.Author.Rules.{rules}
-use Rattle.schedule.specs.Front.{faultCode, faultPlace}
-use Rattle.schedule.specs.Answers.{refusedAs, refusedFor}
+use Rattle.schedule.specs.Front.{fault_code, fault_place}
+use Rattle.schedule.specs.Answers.{refused_as, refused_for}
 use Rattle.schedule.specs.declared.answer.Answer.{Answer}
 use Rattle.schedule.specs.declared.front.Fault.{Fault}
 use Rattle.schedule.proofs.answer.of_fault.Statement.{statement}
 use Rattle.schedule.proofs.answer.of_fault.Tie as tie
 
-made : (x : Fault) (a : ℕ) → a ≡ faultCode x → (b : ℕ) → b ≡ faultPlace x → (r : Answer) → r ≡ refusedAs a b → r ≡ refusedFor x
+made : (x : Fault) (a : ℕ) → a ≡ fault_code x → (b : ℕ) → b ≡ fault_place x → (r : Answer) → r ≡ refused_as a b → r ≡ refused_for x
 made x a pa b pb r p = p ∙ rw (pa, pb)
 
 code-requires : tie.Need-code-requires

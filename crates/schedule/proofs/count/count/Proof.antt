@@ -3,8 +3,8 @@ use Prim.Native.Nat.{◌+◌, ◌-◌}
 use native.Mathlib.Omega.{arith}
 use borrow.Author.Rules.{rules}
 use Rattle.schedule.specs.Limits as limit
-use Rattle.schedule.proofs.MeasureTests.{at-end, at_zero, at-past, at-unknown, row-whole, row_other}
-use Rattle.schedule.proofs.CountLoop.{Underway, begins, ends-full, ends-surplus, ends, ends-broken, goes_on}
+use Rattle.schedule.proofs.MeasureTests.{at_end, at_zero, at_past, at_unknown, row_whole, row_other}
+use Rattle.schedule.proofs.CountLoop.{Underway, begins, ends_full, ends_surplus, ends, ends_broken, goes_on}
 use Rattle.schedule.proofs.count.count.Statement.{statement}
 use Rattle.schedule.proofs.count.count.Tie as tie
 
@@ -51,28 +51,28 @@ loop-less : tie.Need-loop-smaller invariant-loop decreases-loop
 loop-less c = search rules
 
 loop-again : tie.Need-loop-preserved invariant-loop decreases-loop
-loop-again c = search (goes_on, row-whole)
+loop-again c = search (goes_on, row_whole)
 
 returns : tie.Need-returns invariant-loop decreases-loop
-returns c = search ends-surplus
+returns c = search ends_surplus
 
 returns-2 : tie.Need-returns-2 invariant-loop decreases-loop
-returns-2 c = search ends-full
+returns-2 c = search ends_full
 
 returns-3 : tie.Need-returns-3 invariant-loop decreases-loop
-returns-3 c = search (ends, at-end)
+returns-3 c = search (ends, at_end)
 
 returns-4 : tie.Need-returns-4 invariant-loop decreases-loop
-returns-4 c = search (ends-broken, at_zero)
+returns-4 c = search (ends_broken, at_zero)
 
 returns-5 : tie.Need-returns-5 invariant-loop decreases-loop
-returns-5 c = search (ends-broken, at-past)
+returns-5 c = search (ends_broken, at_past)
 
 returns-6 : tie.Need-returns-6 invariant-loop decreases-loop
-returns-6 c = search (ends-broken, at-unknown)
+returns-6 c = search (ends_broken, at_unknown)
 
 returns-7 : tie.Need-returns-7 invariant-loop decreases-loop
-returns-7 c = search (ends-broken, row_other)
+returns-7 c = search (ends_broken, row_other)
 
 pub count_spec : {M : Type 1} → statement M
 count_spec =

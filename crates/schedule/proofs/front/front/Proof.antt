@@ -1,6 +1,6 @@
 -- `schedule::front::front` meets its contract: length, version, body and kind are tested in the definition's order. Assumes nothing.
 use borrow.Author.Rules.{rules}
-use Rattle.schedule.proofs.Opening.{too_short, wrong-length, wrong-version, too_long, opens}
+use Rattle.schedule.proofs.Opening.{too_short, wrong_length_lem, wrong_version, too_long, opens}
 use Rattle.schedule.proofs.front.front.Statement.{statement}
 use Rattle.schedule.proofs.front.front.Tie as tie
 
@@ -17,13 +17,13 @@ cast-if2 : tie.Need-overflow-cast-if2
 cast-if2 c = search rules
 
 returns-2 : tie.Need-returns-2
-returns-2 c = search wrong-length
+returns-2 c = search wrong_length_lem
 
 shared-slice-read-if3 : tie.Need-shared-slice-read-if3
 shared-slice-read-if3 c = search rules
 
 returns-3 : tie.Need-returns-3
-returns-3 c = search wrong-version
+returns-3 c = search wrong_version
 
 returns-4 : tie.Need-returns-4
 returns-4 c = search too_long

@@ -1,5 +1,5 @@
 -- `schedule::lengths::length_of` meets its contract: the table says what the widths say, and what it does not have is no step. Assumes nothing.
-use Rattle.schedule.proofs.LengthTable.{in_table, no_kind, no-tag}
+use Rattle.schedule.proofs.LengthTable.{in_table, no_kind, no_tag}
 use borrow.Author.Rules.{rules}
 use Rattle.schedule.proofs.lengths.length_of.Statement.{statement}
 use Rattle.schedule.proofs.lengths.length_of.Tie as tie
@@ -17,7 +17,7 @@ returns : tie.Need-returns
 returns c = search in_table
 
 returns-2 : tie.Need-returns-2
-returns-2 c = search no-tag
+returns-2 c = search no_tag
 
 returns-3 : tie.Need-returns-3
 returns-3 c = search no_kind

@@ -1,5 +1,5 @@
 -- `schedule::read::counting_step` meets its contract: the tag is the byte behind the length byte, and behind the file's end stands no tag. Assumes nothing.
-use Rattle.schedule.proofs.PastEnd.{too_short, past_end, by-tag}
+use Rattle.schedule.proofs.PastEnd.{too_short, past_end, by_tag}
 use borrow.Author.Rules.{rules}
 use Rattle.schedule.proofs.read.counting_step.Statement.{statement}
 use Rattle.schedule.proofs.read.counting_step.Tie as tie
@@ -26,7 +26,7 @@ counting-tagged-requires : tie.Need-counting-tagged-requires
 counting-tagged-requires c κs = search rules
 
 returns-3 : tie.Need-returns-3
-returns-3 c = search by-tag
+returns-3 c = search by_tag
 
 pub counting-step-spec : {M : Type 1} → statement M
 counting-step-spec =
