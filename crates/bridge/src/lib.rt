@@ -1,5 +1,7 @@
 // The replayer for programs in other languages: a function on numbers and byte slices, exported under its plain name. Nothing is asked of a caller
 // but that the slices are there.
+#![tactic(auto)]
+
 ghost use Rattle.std.specs.Prelude.{◌≤◌, length};
 ghost use Rattle.rows.specs.Stores.{Laid};
 ghost use Rattle.bridge.specs.Called.{three, called, CallLeaves};

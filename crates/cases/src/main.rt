@@ -1,6 +1,8 @@
 // Replays each file that an argument names, and writes the name and the answer's three lines. In front of each file stand two lengths of two bytes:
 // those of the log buffer and of the state buffer that it is replayed with. A file over the largest gets its answer as an input too. A line more tells
 // of a byte changed behind what the answer counts.
+#![tactic(auto)]
+
 ghost use Rattle.lines.specs.Lines.{InFront};
 
 use libc::STDOUT_FILENO;

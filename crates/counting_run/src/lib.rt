@@ -1,4 +1,6 @@
 // The replay of a counting file: its steps run one by one on a state that stays in place.
+#![tactic(auto)]
+
 ghost use Rattle.std.specs.Prelude.{length};
 ghost use Rattle.schedule.specs.Answers.{Leaves};
 ghost use Rattle.schedule.specs.Running.{Counts, Runnable, Ended, rest_run};

@@ -1,5 +1,7 @@
 // The flag with helping: a value that threads flip, each by single moves of the source's loop, where one thread may carry out another's flip.
 // A state goes in by value and comes back by value. Every public function here takes any input.
+#![tactic(auto)]
+
 pub mod state; // the state: fresh, and its image
 pub mod sound; // the test of a made-up state
 pub mod moves; // one move of a thread, from its place, the flag's value and what is pending

@@ -1,5 +1,7 @@
 // The flat combiner: clients leave requests in slots, one combiner gathers them in turn and answers them in turn. A state goes in by value and
 // comes back by value. Every public function here takes any input.
+#![tactic(auto)]
+
 pub mod state; // the state: fresh, and its image
 pub mod sound; // the test of a made-up state
 pub mod client; // the clients' transitions, on one client

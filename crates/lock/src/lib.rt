@@ -1,5 +1,7 @@
 // The shift lock: one record in store, a writer that checks the cells one by one, readers counted in a cell each. A state goes in by value and
 // comes back by value. Every public function here takes any input.
+#![tactic(auto)]
+
 pub mod state; // the state: fresh, and its image
 pub mod sound; // the test of a made-up state
 pub mod writer; // the writer's transitions, on the head

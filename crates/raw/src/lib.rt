@@ -1,5 +1,7 @@
 // Machine states as bytes, field by field, so that another program can make up any state: the numbers big-endian, a flag as a byte, unused entries
 // too. This is not the image, which leaves out what is unused. Every public function takes any input.
+#![tactic(auto)]
+
 mod flags;
 pub mod counting_raw; // 7 bytes
 pub mod lock_raw; // 10 bytes and 3 for each cell

@@ -1,4 +1,6 @@
 // Reads a schedule from standard input and writes the answer to it: three lines, verdict, log and state.
+#![tactic(auto)]
+
 use libc::STDOUT_FILENO;
 use lines::verdict;
 use schedule::limits;

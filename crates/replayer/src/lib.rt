@@ -1,4 +1,6 @@
 // The replayer: any bytes, any two buffers, one answer.
+#![tactic(auto)]
+
 ghost use Rattle.schedule.specs.Answers.{Leaves};
 ghost use Rattle.replayer.specs.Replay.{replay_of, opened_as, input_of};
 

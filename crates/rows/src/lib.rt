@@ -1,5 +1,7 @@
 // Bytes and big-endian numbers of two and four bytes, read from and written to a slice at any place. No function asks anything of its
 // caller: a reader answers 0 where the slice does not have the bytes, and a writer stores all or nothing and answers the place after it.
+#![tactic(auto)]
+
 ghost use Rattle.std.specs.Prelude.{◌≡◌, ◌<◌, ◌∷◌, []};
 ghost use Rattle.rows.specs.Bytes.{number_at, big};
 ghost use Rattle.rows.specs.Stores.{Laid};

@@ -1,4 +1,6 @@
 // The language of schedules: what a file says, or the one fault that it has.
+#![tactic(auto)]
+
 pub mod limits; // how large anything may be
 pub mod kinds; // the number of each kind
 pub mod steps; // the steps of each kind, and a file's parameters

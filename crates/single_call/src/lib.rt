@@ -1,5 +1,7 @@
 // The single step for programs in other languages: a kind, a raw state of that kind, one step as it stands in a file behind a byte for its kind,
 // and a log buffer. Takes any input. Accepted: the state's bytes are those of the state after. Refused: no byte of the state changes.
+#![tactic(auto)]
+
 ghost use Rattle.std.specs.Prelude.{◌≡◌};
 ghost use Rattle.single_call.specs.Call.{asked_by, unlogged, StepLeaves, flat_raw, lock_raw, counting_raw, flag_raw, stepped, stepped_by, exported, ExportLeaves};
 
