@@ -2,7 +2,7 @@
 ghost use Rattle.rows.specs.Stores.{Laid};
 ghost use Rattle.counting.specs.Image.{entry_bytes, tagged};
 
-#[derive(Drop)]
+#[derive(Clone, Copy)]
 pub enum Entry {
     // the value that readable_to_writeable withdraws
     Withdrawn { t: u32 },

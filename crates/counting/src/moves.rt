@@ -9,7 +9,7 @@ use super::state::State;
 use machine::codes;
 use schedule::limits;
 
-#[derive(Drop)]
+#[derive(Clone, Copy)]
 pub struct Moved {
     pub state: State,
     pub code: u8,

@@ -8,7 +8,7 @@ use super::moves;
 use super::moves::Flips;
 use schedule::limits;
 
-#[derive(Drop)]
+#[derive(Clone, Copy)]
 pub enum Entry {
     // the flip of thread k, whoever carried it out
     Flip { k: u8 },

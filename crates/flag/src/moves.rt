@@ -10,7 +10,7 @@ use machine::codes;
 use schedule::limits;
 
 // Whose flips a move carries out.
-#[derive(Drop)]
+#[derive(Clone, Copy)]
 pub enum Flips {
     Nobody,
     Mover,
@@ -19,7 +19,7 @@ pub enum Flips {
 }
 
 // Where a move leads: the thread's place, the flag's value and what is pending, and whose flips it carries out.
-#[derive(Drop)]
+#[derive(Clone, Copy)]
 pub struct Went {
     pub place: u8,
     pub pending: u8,

@@ -7,7 +7,7 @@ ghost use Rattle.flat.specs.Moved.{sent_client, received_client};
 use super::state::Client;
 use machine::codes;
 
-#[derive(Drop)]
+#[derive(Clone, Copy)]
 pub struct ClientMoved {
     pub client: Client,
     pub code: u8,

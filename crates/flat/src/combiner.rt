@@ -71,7 +71,7 @@ pub fn no_elem() -> Elem
 }
 
 // The client and the element that the combiner keeps of it.
-#[derive(Drop)]
+#[derive(Clone, Copy)]
 pub struct Gathered {
     pub client: Client,
     pub elem: Elem,

@@ -2,7 +2,7 @@
 ghost use Rattle.rows.specs.Stores.{Laid};
 ghost use Rattle.flat.specs.Image.{entry_bytes};
 
-#[derive(Drop)]
+#[derive(Clone, Copy)]
 pub enum Entry {
     // client j takes the response to its request
     Answer { j: u8, rid: u32, resp: u32 },

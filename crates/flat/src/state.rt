@@ -12,7 +12,7 @@ use schedule::limits;
 
 // A client, its slot, the request and the response stored for it. Both carry the client's own id, so it stands once; `req` and `resp` are 0
 // where none is stored.
-#[derive(Drop)]
+#[derive(Clone, Copy)]
 pub struct Client {
     pub rid: u32,
     pub req: u32,
@@ -24,7 +24,7 @@ pub struct Client {
 }
 
 // What the combiner gathered from a client: an id, or nothing.
-#[derive(Drop)]
+#[derive(Clone, Copy)]
 pub struct Elem {
     pub rid: u32,
     pub present: bool,

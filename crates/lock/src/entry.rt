@@ -2,7 +2,7 @@
 ghost use Rattle.rows.specs.Stores.{Laid};
 ghost use Rattle.lock.specs.Image.{entry_bytes};
 
-#[derive(Drop)]
+#[derive(Clone, Copy)]
 pub enum Entry {
     // the record that exc_finish withdraws
     Withdrawn { t: u32 },

@@ -9,7 +9,7 @@ use super::state::{Cell, Head};
 use machine::codes;
 use schedule::limits;
 
-#[derive(Drop)]
+#[derive(Clone, Copy)]
 pub struct CellMoved {
     pub cell: Cell,
     pub code: u8,

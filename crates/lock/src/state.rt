@@ -12,7 +12,7 @@ use machine::codes;
 use schedule::limits;
 
 // A cell's count: the readers that announced themselves and have not released. Of them `pending` have no guard yet.
-#[derive(Drop)]
+#[derive(Clone, Copy)]
 pub struct Cell {
     pub count: u8,
     pub pending: u8,
@@ -20,7 +20,7 @@ pub struct Cell {
 }
 
 // What is no cell: the record in store, and how far the writer is. `t` is 0 where nothing is stored, `cursor` where no writer is pending.
-#[derive(Drop)]
+#[derive(Clone, Copy)]
 pub struct Head {
     pub t: u32,
     pub width: u8,

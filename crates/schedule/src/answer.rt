@@ -5,7 +5,7 @@ ghost use Rattle.schedule.specs.Answers.{refused_as, refused_for};
 use super::front;
 use super::front::Fault;
 
-#[derive(Drop)]
+#[derive(Clone, Copy)]
 pub struct Answer {
     pub place: usize,
     pub logged: usize,

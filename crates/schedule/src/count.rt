@@ -5,7 +5,7 @@ ghost use Rattle.schedule.specs.Counting.{counted_of};
 use super::front::Fault;
 use super::{lengths, limits};
 
-#[derive(Drop)]
+#[derive(Clone, Copy)]
 pub enum Counted {
     Faulty(Fault),
     Steps(usize),

@@ -7,7 +7,7 @@ use super::{kinds, limits};
 use machine::codes;
 
 // Why a file is no schedule.
-#[derive(Drop)]
+#[derive(Clone, Copy)]
 pub enum Fault {
     Length,
     Version,
@@ -47,7 +47,7 @@ pub fn place(f: Fault) -> usize
 }
 
 // A file's fault, or its parameters and the place of its first step.
-#[derive(Drop)]
+#[derive(Clone, Copy)]
 pub enum Opened {
     Faulty(Fault),
     Open { params: Params, from: usize },

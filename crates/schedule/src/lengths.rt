@@ -57,7 +57,7 @@ pub fn length_of(kind: u8, tag: u8) -> u8
 }
 
 // What stands at a place: nothing more, a step that is none, or a step and the place after it.
-#[derive(Drop)]
+#[derive(Clone, Copy)]
 pub enum Measured {
     End,
     Broken,

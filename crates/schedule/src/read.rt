@@ -184,7 +184,7 @@ fn flag_tagged(file: &[u8], tag: u8, a: usize) -> FlagStep
 }
 
 // What stands at a place of a file of a kind.
-#[derive(Drop)]
+#[derive(Clone, Copy)]
 pub enum Found {
     End,
     Broken,

@@ -1,5 +1,5 @@
 // The steps of each kind under the names that the source gives its transitions, and the parameters of a file.
-#[derive(Drop)]
+#[derive(Clone, Copy)]
 pub enum FlatStep {
     ClientSend { j: u8, rid: u32, req: u32 },
     ClientRecv { j: u8 },
@@ -11,7 +11,7 @@ pub enum FlatStep {
     CombinerGoToCollecting,
 }
 
-#[derive(Drop)]
+#[derive(Clone, Copy)]
 pub enum LockStep {
     ExcStart,
     ExcCheckCount,
@@ -22,7 +22,7 @@ pub enum LockStep {
     SharedRelease { r: u8, t: u32 },
 }
 
-#[derive(Drop)]
+#[derive(Clone, Copy)]
 pub enum CountingStep {
     WriteableToReadable { t: u32 },
     ReadableToWriteable,
@@ -30,7 +30,7 @@ pub enum CountingStep {
     DeleteRef { t: u32 },
 }
 
-#[derive(Drop)]
+#[derive(Clone, Copy)]
 pub enum FlagStep {
     Begin { k: u8 },
     Move { k: u8 },
@@ -38,7 +38,7 @@ pub enum FlagStep {
 }
 
 // A step of any kind.
-#[derive(Drop)]
+#[derive(Clone, Copy)]
 pub enum Step {
     Flat(FlatStep),
     Lock(LockStep),
@@ -47,7 +47,7 @@ pub enum Step {
 }
 
 // What the front of a file asks for.
-#[derive(Drop)]
+#[derive(Clone, Copy)]
 pub enum Params {
     Flat { clients: u8 },
     Lock { width: u8, t: u32 },

@@ -16,7 +16,7 @@ use schedule::steps::Step;
 use schedule::{kinds, read};
 
 // The entry's length, and the code: 0 where the step was accepted.
-#[derive(Drop)]
+#[derive(Clone, Copy)]
 pub struct Called {
     pub logged: usize,
     pub code: u8,
@@ -43,7 +43,7 @@ pub extern "C" fn ladlecomet_single(
 }
 
 // What the step's bytes tell: one whole step of the kind that the first byte says and nothing behind it, or anything else.
-#[derive(Drop)]
+#[derive(Clone, Copy)]
 enum Asked {
     Malformed,
     One(Step),

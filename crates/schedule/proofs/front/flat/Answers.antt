@@ -1,0 +1,17 @@
+-- `schedule::front::flat` meets its contract: a missing byte and too many clients are refused in the definition's order. Assumes nothing.
+use native.Mathlib.Omega.{arith}
+use borrow.Author.Tests.{lt-ltb, le-ltb}
+use borrow.Author.Rules.{rules}
+use Rattle.schedule.proofs.front.flat.Goals as goal
+
+pub returns-then-file-lt5 : goal.returns-then-file-lt5
+returns-then-file-lt5 c = rw (lt-ltb _ _ c.if-file-lt5.true)
+
+pub overflow_cast-clients : goal.overflow_cast-clients
+overflow_cast-clients c = omega (arith, c.shared_slice_known-1.given 4)
+
+pub returns-then-clients-gt-CLIENTS : goal.returns-then-clients-gt-CLIENTS
+returns-then-clients-gt-CLIENTS c = rw (le-ltb _ _ c.if-file-lt5.false, lt-ltb _ _ c.if-clients-gt-CLIENTS.true)
+
+pub returns : goal.returns
+returns c = rw (le-ltb _ _ c.if-file-lt5.false, le-ltb _ _ c.if-clients-gt-CLIENTS.false)
