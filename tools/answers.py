@@ -82,11 +82,13 @@ def path(names, place, word, left):
 
 
 def turn_body(names, place, body, left):
-    # an alias of a whole step: let q = c.before in .. q.x
-    aliases = dict(re.findall(r"let (\S+) = (c(?:\.before)*) in", body))
-    for a, target in aliases.items():
-        body = re.sub(rf"let {re.escape(a)} = {re.escape(target)} in\s*", "", body)
-        body = re.sub(rf"(?<![\w.'-]){re.escape(a)}(?=\.)", target, body)
+    # aliases of whole steps, also in terms of one another: let q = c.before in let r = q.before in .. r.x
+    while True:
+        m = re.search(r"let (\S+) = (c(?:\.before)*) in\s*", body)
+        if not m:
+            break
+        body = body[: m.start()] + body[m.end():]
+        body = re.sub(rf"(?<![\w.'-]){re.escape(m[1])}(?=\.)", m[2], body)
     return TOKEN.sub(lambda m: path(names, place, m[0], left) if m[0].lstrip("←(").startswith("c.") else m[0], body)
 
 

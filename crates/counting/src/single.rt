@@ -58,8 +58,8 @@ fn quiet(s: State, code: u8) -> Answer
 }
 
 fn apply(s: State, x: CountingStep, log: &mut [u8]) -> Answer
-    requires s_value { test.sound s ≡ true }
-    requires limit_in_bounds { limit.entry ≤ length log.old }
+    requires sound { test.sound s ≡ true }
+    requires room { limit.entry ≤ length log.old }
     ensures { Applied s x log.old result log.new }
 {
     match x {

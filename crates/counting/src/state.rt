@@ -5,7 +5,7 @@ ghost use Rattle.counting.specs.Counting.{fresh_state};
 ghost use Rattle.counting.specs.Image.{image_bytes};
 
 // The stored value and its counter are there or not together, so one flag serves both. All references carry `t`.
-#[derive(Drop)]
+#[derive(Clone, Copy)]
 pub struct State {
     pub t: u32,
     pub count: u8,

@@ -60,8 +60,8 @@ fn quiet(s: State, code: u8) -> Answer
 }
 
 fn apply(s: State, x: FlagStep, log: &mut [u8]) -> Answer
-    requires s_value { test.sound s ≡ true }
-    requires limit_in_bounds { limit.entry ≤ length log.old }
+    requires sound { test.sound s ≡ true }
+    requires room { limit.entry ≤ length log.old }
     ensures { Applied s x log.old result log.new }
 {
     match x {
@@ -92,8 +92,8 @@ fn begin(s: State, k: u8) -> Answer
 
 // A move, under a name that the language leaves free.
 fn move_on(s: State, k: u8, log: &mut [u8]) -> Answer
-    requires s_value { test.sound s ≡ true }
-    requires limit_in_bounds { limit.entry ≤ length log.old }
+    requires sound { test.sound s ≡ true }
+    requires room { limit.entry ≤ length log.old }
     ensures { Applied s (Move k) log.old result log.new }
 {
     let a = moves::inside(s.threads, k);
@@ -114,8 +114,8 @@ fn move_on(s: State, k: u8, log: &mut [u8]) -> Answer
 }
 
 fn read(s: State, k: u8, log: &mut [u8]) -> Answer
-    requires s_value { test.sound s ≡ true }
-    requires limit_in_bounds { limit.entry ≤ length log.old }
+    requires sound { test.sound s ≡ true }
+    requires room { limit.entry ≤ length log.old }
     ensures { Applied s (Read k) log.old result log.new }
 {
     let a = moves::inside(s.threads, k);

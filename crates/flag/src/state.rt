@@ -8,7 +8,7 @@ use machine::codes;
 use schedule::limits;
 
 // Each thread's place in the source's loop: 0 idle, 1 to 6 before the exchange or store that it will try next.
-#[derive(Drop)]
+#[derive(Clone, Copy)]
 pub struct State {
     pub threads: u8,
     pub pending: u8,

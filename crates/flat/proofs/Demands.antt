@@ -2,7 +2,7 @@
 -- rounds. So each step shows what it should, and histories whose steps do are in turn. Assumes nothing.
 use Prim.Native.Nat.{ℕ, suc, ◌+◌, ◌*◌, ◌≤◌, ◌<◌}
 use native.Mathlib.Nat.{mul-zero, mul-suc}
-use mathlib.Core.Path.{◌≡◌, refl, sym, ap, ◌∙◌}
+use mathlib.Core.Path.{◌≡◌, refl, sym, subst, ap, ◌∙◌}
 use mathlib.Core.Bool.{Bool, true, false, not}
 use mathlib.Core.List.{List, [], ◌∷◌, ◌++◌, append-nil}
 use native.Mathlib.Omega.{arith}
@@ -338,18 +338,26 @@ module _ {xs ys zs : List Message} {g n : ℕ} (t : InTurn xs ys zs g n) where
 
 turns_step : (h : Hist) (x : FlatStep) (l : List Entry) → Turns h → At h x l → Turns (record { did = x; wrote = l } ∷ h)
 turns_step h (ClientSend q rid req) l t p = rw p.0 (λ j. on (eqb j q)
-    (λ b. rw (b, eqb-true j q b) (asks_in_turn (t q) (message rid req) p.1))
+    (λ b. rw b (asks_in_turn (t j) (message rid req) (subst (λ x. length (requests h x) ≡ recvs h x) (sym (eqb-true j q b)) p.1)))
     (λ b. rw b (t j)))
 turns_step h (ClientRecv q) l t p = rw p.told (λ j. on (eqb j q)
-    (λ b. rw (b, eqb-true j q b) (told_in_turn (t q) p.asked p.sent))
+    (λ b. rw b
+    (subst
+    (λ x. InTurn (requests h x) (sends h x) (answers h x ++ message (nth (sends h q) (recvs h q)).id (nth (sends h q) (recvs h q)).load ∷ []) (gatherings h x) (suc (recvs h x)))
+    (sym (eqb-true j q b))
+    (told_in_turn (t q) p.asked p.sent)))
     (λ b. rw b (t j)))
 turns_step h CombinerRecv l t p = rw p.0 (λ j. on (eqb j (place h))
-    (λ b. rw (b, eqb-true j (place h) b) (gathered_in_turn (t (place h)) p.1))
+    (λ b. rw b (gathered_in_turn (t j) (subst (λ x. length (requests h x) ≡ gatherings h x + 1) (sym (eqb-true j (place h) b)) p.1)))
     (λ b. rw b (t j)))
 turns_step h CombinerSkip l t p = rw p t
 turns_step h CombinerGoToResponding l t p = rw p t
 turns_step h (CombinerSend rid resp) l t p = rw p.quiet (λ j. on (eqb j (turn h))
-    (λ b. rw (b, eqb-true j (turn h) b) (sent_in_turn (t (turn h)) rid resp p.gathered p.meant))
+    (λ b. rw b
+    (subst
+    (λ x. InTurn (requests h x) (sends h x ++ message rid resp ∷ []) (answers h x) (gatherings h x) (recvs h x))
+    (sym (eqb-true j (turn h) b))
+    (sent_in_turn (t (turn h)) rid resp p.gathered p.meant)))
     (λ b. rw b (t j)))
 turns_step h CombinerSendSkip l t p = rw p t
 turns_step h CombinerGoToCollecting l t p = rw p t

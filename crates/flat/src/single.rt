@@ -60,8 +60,8 @@ fn quiet(s: State, code: u8) -> Answer
 }
 
 fn apply(s: State, x: FlatStep, log: &mut [u8]) -> Answer
-    requires s_value { test.sound s ≡ true }
-    requires limit_in_bounds { limit.entry ≤ length log.old }
+    requires sound { test.sound s ≡ true }
+    requires room { limit.entry ≤ length log.old }
     ensures { Applied s x log.old result log.new }
 {
     match x {
@@ -92,8 +92,8 @@ fn client_send(s: State, j: u8, rid: u32, req: u32) -> Answer
 }
 
 fn client_recv(s: State, j: u8, log: &mut [u8]) -> Answer
-    requires s_value { test.sound s ≡ true }
-    requires limit_in_bounds { limit.entry ≤ length log.old }
+    requires sound { test.sound s ≡ true }
+    requires room { limit.entry ≤ length log.old }
     ensures { Applied s (ClientRecv j) log.old result log.new }
 {
     let a = client::inside(s.count, j);

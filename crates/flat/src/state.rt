@@ -31,7 +31,7 @@ pub struct Elem {
 }
 
 // `count` clients; the combiner gathered `len` elements, and while it responds `idx` of them are done.
-#[derive(Drop)]
+#[derive(Clone, Copy)]
 pub struct State {
     pub clients: [Client; limits::CLIENTS],
     pub elems: [Elem; limits::CLIENTS],
@@ -151,8 +151,8 @@ fn put_message(out: &mut [u8], at: usize, there: bool, rid: u32, load: u32) -> u
 
 // The first n clients from a place of the buffer on.
 fn put_clients(out: &mut [u8], at: usize, s: State, n: usize) -> usize
-    requires n_le_clients { n ≤ limit.clients }
-    requires n_in_bounds { at + client_long * n ≤ length out.old }
+    requires within { n ≤ limit.clients }
+    requires room { at + client_long * n ≤ length out.old }
     ensures { Laid out.old at (pieces client_bytes (take n s.clients)) result out.new }
 {
     let mut i: usize = 0;
@@ -191,8 +191,8 @@ fn put_combiner(out: &mut [u8], at: usize, s: State) -> usize
 
 // The first n elements from a place of the buffer on.
 fn put_elems(out: &mut [u8], at: usize, s: State, n: usize) -> usize
-    requires n_le_clients { n ≤ limit.clients }
-    requires n_in_bounds { at + elem_long * n ≤ length out.old }
+    requires within { n ≤ limit.clients }
+    requires room { at + elem_long * n ≤ length out.old }
     ensures { Laid out.old at (pieces elem_bytes (take n s.elems)) result out.new }
 {
     let mut i: usize = 0;

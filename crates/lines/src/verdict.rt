@@ -44,7 +44,7 @@ fn write_lines(out: &mut [u8], answer: Answer, log: &[u8], image: &[u8]) -> usiz
 fn put_verdict(out: &mut [u8], code: u8, place: usize) -> usize
     requires { longest_verdict ≤ length out.old }
     ensures laid { Laid out.old 0 (verdict_line code place) result out.new }
-    ensures place_len_bound { length (verdict_line code place) ≤ longest_verdict }
+    ensures bounded { length (verdict_line code place) ≤ longest_verdict }
 {
     let a = rows::put(out, 0, b"verdict ");
     let b = decimal::put_decimal(out, a, code as usize);

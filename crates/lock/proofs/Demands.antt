@@ -2,7 +2,7 @@
 -- are counted. Assumes nothing.
 use Prim.Native.Nat.{ℕ, ◌+◌, ◌*◌, ◌≤◌}
 use native.Mathlib.Nat.{mul-zero, mul-suc}
-use mathlib.Core.Path.{◌≡◌, refl, ◌∙◌}
+use mathlib.Core.Path.{◌≡◌, refl, sym, subst, ◌∙◌}
 use mathlib.Core.Bool.{true, ◌&&◌}
 use mathlib.Core.List.{List, [], ◌∷◌}
 use native.Mathlib.Omega.{arith}
@@ -18,7 +18,7 @@ use Rattle.schedule.specs.Limits as limit
 use Rattle.schedule.specs.declared.steps.LockStep.{LockStep}
 use Rattle.schedule.specs.declared.steps.LockStep.TheVariants.{ExcStart, ExcCheckCount, ExcFinish, ExcRelease, SharedStart, SharedFinish, SharedRelease}
 use Rattle.lock.specs.Lock.{lock, zero_cell, fresh_state, cell, next, logs}
-use Rattle.lock.specs.Demand.{Hist, shared_starts, shared_releases, handed_out, given_back, taken, returned, in_force, finishes_at, starts, checks, finishes}
+use Rattle.lock.specs.Demand.{Hist, ReaderAt, shared_starts, shared_releases, handed_out, given_back, taken, returned, in_force, finishes_at, starts, checks, finishes}
 use Rattle.lock.specs.Demand.{At, Guards, CellsCounted, GuardsCounted, HeadCounted}
 use Rattle.lock.specs.declared.entry.Entry.{Entry}
 use Rattle.lock.specs.declared.state.State.{State}
@@ -231,7 +231,7 @@ guards_step t₀ h (SharedRelease r t) l g p =
     rw p.0
     (record {
       readers_exact = λ q u. on (eqb u t && eqb q r)
-          (λ b. let k = both_true (eqb u t) (eqb q r) b in rw (b, eqb-true u t k.0, eqb-true q r k.1) p.1)
+          (λ b. let k = both_true (eqb u t) (eqb q r) b in rw b (subst (λ x. ReaderAt h q x) (sym (eqb-true u t k.0)) (subst (λ x. ReaderAt h x t) (sym (eqb-true q r k.1)) p.1)))
           (λ b. rw b (g.readers_exact q u));
       writers_exact = g.writers_exact;
       one_writer = g.one_writer;

@@ -61,8 +61,8 @@ fn quiet(s: State, code: u8) -> Answer
 }
 
 fn apply(s: State, x: LockStep, log: &mut [u8]) -> Answer
-    requires s_value { test.sound s ≡ true }
-    requires limit_in_bounds { limit.entry ≤ length log.old }
+    requires sound { test.sound s ≡ true }
+    requires room { limit.entry ≤ length log.old }
     ensures { Applied s x log.old result log.new }
 {
     match x {
@@ -100,8 +100,8 @@ fn exc_check_count(s: State) -> Answer
 }
 
 fn exc_finish(s: State, log: &mut [u8]) -> Answer
-    requires s_value { test.sound s ≡ true }
-    requires limit_in_bounds { limit.entry ≤ length log.old }
+    requires sound { test.sound s ≡ true }
+    requires room { limit.entry ≤ length log.old }
     ensures { Applied s ExcFinish log.old result log.new }
 {
     let h = s.head;
@@ -137,8 +137,8 @@ fn shared_start(s: State, r: u8) -> Answer
 }
 
 fn shared_finish(s: State, r: u8, log: &mut [u8]) -> Answer
-    requires s_value { test.sound s ≡ true }
-    requires limit_in_bounds { limit.entry ≤ length log.old }
+    requires sound { test.sound s ≡ true }
+    requires room { limit.entry ≤ length log.old }
     ensures { Applied s (SharedFinish r) log.old result log.new }
 {
     let h = s.head;

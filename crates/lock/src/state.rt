@@ -31,7 +31,7 @@ pub struct Head {
     pub guard: bool,
 }
 
-#[derive(Drop)]
+#[derive(Clone, Copy)]
 pub struct State {
     pub head: Head,
     pub cells: [Cell; limits::WIDTH],
@@ -136,8 +136,8 @@ fn put_writer(out: &mut [u8], at: usize, h: Head) -> usize
 
 // The first n cells from a place of the buffer on, three bytes each.
 fn put_cells(out: &mut [u8], at: usize, s: State, n: usize) -> usize
-    requires n_le_width { n ≤ limit.width }
-    requires n_in_bounds { at + 3 * n ≤ length out.old }
+    requires within { n ≤ limit.width }
+    requires room { at + 3 * n ≤ length out.old }
     ensures { Laid out.old at (pieces cell_bytes (take n s.cells)) result out.new }
 {
     let mut i: usize = 0;

@@ -1,0 +1,11 @@
+-- `counting::entry::put_entry` meets its contract: each case has its tag. Assumes nothing.
+use borrow.Author.Rules.{rules}
+use Rattle.rows.proofs.Stores.{laid_same}
+use Rattle.counting.specs.Image.{entry_bytes}
+use Rattle.counting.proofs.entry.put_entry.Goals as goal
+
+pub returns-in-Withdrawn : goal.returns-in-Withdrawn
+returns-in-Withdrawn c = search (laid_same entry_bytes)
+
+pub returns-in-Granted : goal.returns-in-Granted
+returns-in-Granted c = search (laid_same entry_bytes)

@@ -1,0 +1,28 @@
+-- `flat::single::combiner_send` meets its contract: the combiner's tests, then the element at the cursor, which soundness puts inside the row. Assumes nothing.
+use borrow.Author.Rules.{rules}
+use Rattle.machine.proofs.Answering.{quiet_refused, quiet_fair}
+use Rattle.flat.specs.Single.{stepper}
+use Rattle.flat.proofs.Moved.{answer_inside, answer_fits}
+use Rattle.flat.proofs.Arms.{stopped, combiner_send_code, combiner_send_fair}
+use Rattle.flat.proofs.single.combiner_send.Goals as goal
+
+pub returns-then-a-ne0 : goal.returns-then-a-ne0
+returns-then-a-ne0 c = search (quiet_refused stepper, stopped)
+
+pub bounds-s-i : goal.bounds-s-i
+bounds-s-i c = search answer_inside
+
+pub bounds-s-i-2 : goal.bounds-s-i-2
+bounds-s-i-2 c = search answer_inside
+
+pub returns-then-m-ne0 : goal.returns-then-m-ne0
+returns-then-m-ne0 c = search (quiet_refused stepper, combiner_send_code)
+
+pub bounds-after-i : goal.bounds-after-i
+bounds-after-i c = search answer_inside
+
+pub overflow_add-after : goal.overflow_add-after
+overflow_add-after c = search answer_fits
+
+pub returns : goal.returns
+returns c = search (quiet_fair stepper, combiner_send_fair)

@@ -1,0 +1,17 @@
+-- `flat::single::single` meets its contract: a step of this kind is tested, any other is malformed. Assumes nothing.
+use borrow.Author.Rules.{rules}
+use Rattle.machine.proofs.Answering.{own_step, foreign}
+use Rattle.flat.specs.Single.{stepper}
+use Rattle.flat.proofs.single.single.Goals as goal
+
+pub returns-in-Flat : goal.returns-in-Flat
+returns-in-Flat c = search (own_step stepper)
+
+pub returns-in-Lock : goal.returns-in-Lock
+returns-in-Lock c = search (foreign stepper)
+
+pub returns-in-Counting : goal.returns-in-Counting
+returns-in-Counting c = search (foreign stepper)
+
+pub returns-in-Flag : goal.returns-in-Flag
+returns-in-Flag c = search (foreign stepper)
