@@ -1,0 +1,6 @@
+-- `raw::lock_raw::cell_at` meets its contract: field by field. Assumes nothing.
+use borrow.Author.Rules.{rules}
+use Rattle.raw.proofs.lock_raw.cell_at.Goals as goal
+
+pub returns : goal.returns
+returns c = rw (c.get1-3.ensures, ← c.get1.ensures, ← c.get1-2.ensures)
