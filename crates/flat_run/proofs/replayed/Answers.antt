@@ -19,4 +19,4 @@ run-ran-requires c = search (runnable runner carries)
 
 pub returns : goal.returns
 returns c =
-    ran_leaves runner carries _ _ _ _ _ _ c.requires.0 c.if-log-n.false c.if-image-lt-IMAGE.false _ c.run-ran.ensures _ _ c.image-imaged.ensures
+    ran_leaves runner carries _ _ _ _ _ _ c.requires.counts c.if-log-n.false c.if-image-lt-IMAGE.false _ c.run-ran.ensures _ _ c.image-imaged.ensures

@@ -161,7 +161,7 @@ returns-then-a-ne0-3 c = search (stops runner carries, stopped)
 
 pub returns-then-g-ne0 : goal.returns-then-g-ne0
 returns-then-g-ne0 c =
-    combiner_recv_refused _ _ _ _ _ _ _ _ _ _ _ c.loop-k.invariant c.if-k-n.false _ c.flat_step-step.ensures c.enum_told-1.given.1
+    combiner_recv_refused _ _ _ _ _ _ _ _ _ _ _ c.loop-k.invariant c.if-k-n.false _ c.flat_step-step.ensures c.in-CombinerRecv.is
     _ c.may_gather-a.ensures c.if-a-ne0-3.false _ c.combiner_recv-g.ensures c.if-g-ne0.true
 
 pub returns-then-a-ne0-4 : goal.returns-then-a-ne0-4
@@ -175,7 +175,7 @@ returns-then-a-ne0-6 c = search (stops runner carries, stopped)
 
 pub returns-then-m-ne0-3 : goal.returns-then-m-ne0-3
 returns-then-m-ne0-3 c =
-    combiner_send_refused _ _ _ _ _ _ _ _ _ _ _ c.loop-k.invariant c.if-k-n.false _ c.flat_step-step.ensures _ _ c.step-in-CombinerSend-1.given.1
+    combiner_send_refused _ _ _ _ _ _ _ _ _ _ _ c.loop-k.invariant c.if-k-n.false _ c.flat_step-step.ensures _ _ c.in-CombinerSend.is
     _ c.may_answer-a.ensures c.if-a-ne0-6.false _ c.combiner_send-m.ensures c.if-m-ne0-3.true
 
 pub returns-then-a-ne0-7 : goal.returns-then-a-ne0-7
@@ -184,7 +184,7 @@ returns-then-a-ne0-7 c = search (stops runner carries, stopped)
 pub returns-then-b-ne0 : goal.returns-then-b-ne0
 returns-then-b-ne0 c =
     combiner_send_skip_refused _ _ _ _ _ _ _ _ _ _ _ c.loop-k.invariant c.if-k-n.false _ c.flat_step-step.ensures
-    c.enum_told-in-CombinerSendSkip-1.given.1 _ c.may_answer-a-in-CombinerSendSkip.ensures c.if-a-ne0-7.false _ c.may_skip-b.ensures c.if-b-ne0.true
+    c.in-CombinerSendSkip.is _ c.may_answer-a-in-CombinerSendSkip.ensures c.if-a-ne0-7.false _ c.may_skip-b.ensures c.if-b-ne0.true
 
 pub returns-then-a-ne0-8 : goal.returns-then-a-ne0-8
 returns-then-a-ne0-8 c = search (stops runner carries)

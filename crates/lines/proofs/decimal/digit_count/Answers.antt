@@ -1,0 +1,13 @@
+-- `lines::decimal::digit_count` meets its contract: the loop's invariant says that the digits counted and those of the rest are all, but for one counted twice; the measure is the rest. Assumes nothing.
+use borrow.Author.Rules.{rules}
+use Rattle.lines.proofs.DigitCounts.{Counting, counting_begins, counting_more, counting_ends}
+use Rattle.lines.proofs.decimal.digit_count.Goals as goal
+
+pub loop-rest-init : goal.loop-rest-init
+loop-rest-init c = search (rules, counting_begins)
+
+pub loop-rest-preserved : goal.loop-rest-preserved
+loop-rest-preserved c = search counting_more
+
+pub returns : goal.returns
+returns c = counting_ends _ _ _ c.loop-rest.invariant c.loop-rest-test.false
