@@ -11,8 +11,8 @@ returns-then-state-ne-LENGTH c = search (wrong_length_lem flat_raw)
 pub returns-then-f-ne0 : goal.returns-then-f-ne0
 returns-then-f-ne0 c = search flat_refused
 
-returns-3 : tie.Need-returns-3
+pub returns : goal.returns
 -- of the state that the step handed back: its rows are whole
-returns-3 c =
-    let z = c.before.before.before.before.before.before.before.before.before.single.type-inv.1.1.0.1.1 in
+returns c =
+    let z = c.single-f.type_inv.1.1.0.1.1 in
     search (flat_accepted, rules, row_long, z.0, z.1.0)

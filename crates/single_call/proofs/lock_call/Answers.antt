@@ -11,8 +11,8 @@ returns-then-state-ne-LENGTH c = search (wrong_length_lem lock_raw)
 pub returns-then-l-ne0 : goal.returns-then-l-ne0
 returns-then-l-ne0 c = search lock_refused
 
-returns-3 : tie.Need-returns-3
+pub returns : goal.returns
 -- of the state that the step handed back: its rows are whole
-returns-3 c =
-    let z = c.before.before.before.before.before.before.before.before.before.single.type-inv.1.1.0.1.1 in
+returns c =
+    let z = c.single-l.type_inv.1.1.0.1.1 in
     search (lock_accepted, rules, row_long, z.1.0)

@@ -10,4 +10,6 @@ pub loop-rest-preserved : goal.loop-rest-preserved
 loop-rest-preserved c = search counting_more
 
 pub returns : goal.returns
-returns c = counting_ends _ _ _ c.loop-rest.invariant c.loop-rest-test.false
+returns c =
+    let e = counting_ends _ _ _ c.loop-rest.invariant c.loop-rest-test.false in
+    record { value = e.0; upper_bound = e.1 }

@@ -4,4 +4,4 @@ use Rattle.lines.proofs.Written.{verdict_few, verdict_laid}
 use Rattle.lines.proofs.verdict.put_verdict.Goals as goal
 
 pub returns : goal.returns
-returns c = (search (rules, verdict_laid), search (rules, verdict_few))
+returns c = record { laid = search (rules, verdict_laid); bounded = search (rules, verdict_few) }
