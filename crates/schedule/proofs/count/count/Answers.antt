@@ -11,10 +11,10 @@ pub loop-k-init : goal.loop-k-init
 loop-k-init c = search begins
 
 pub overflow_cast-size : goal.overflow_cast-size
-overflow_cast-size c = omega (arith, c.shared_slice_known-in-loop-k-1.given c.loop-k.at)
+overflow_cast-size c = omega (arith, c.type_inv.file c.loop-k.at)
 
 pub overflow_cast-tag : goal.overflow_cast-tag
-overflow_cast-tag c = omega (arith, c.shared_slice_known-in-loop-k-2-1.given (c.loop-k.at + 1))
+overflow_cast-tag c = omega (arith, c.type_inv.file (c.loop-k.at + 1))
 
 pub loop-k-preserved : goal.loop-k-preserved
 loop-k-preserved c = search (goes_on, row_whole)

@@ -11,7 +11,7 @@ pub returns-then-threads-eq0 : goal.returns-then-threads-eq0
 returns-then-threads-eq0 c = rw (le-ltb _ _ c.if-file-lt6.false, eq-eqb _ _ c.if-threads-eq0.true)
 
 pub overflow_cast-threads : goal.overflow_cast-threads
-overflow_cast-threads c = omega (arith, c.shared_slice_known-1.given 4)
+overflow_cast-threads c = omega (arith, c.type_inv.file 4)
 
 pub returns-then-threads-gt-THREADS : goal.returns-then-threads-gt-THREADS
 returns-then-threads-gt-THREADS c = rw (le-ltb _ _ c.if-file-lt6.false, ne_eqb _ _ c.if-threads-eq0.false, lt-ltb _ _ c.if-threads-gt-THREADS.true)

@@ -8,7 +8,7 @@ pub returns-then-file-lt5 : goal.returns-then-file-lt5
 returns-then-file-lt5 c = rw (lt-ltb _ _ c.if-file-lt5.true)
 
 pub overflow_cast-clients : goal.overflow_cast-clients
-overflow_cast-clients c = omega (arith, c.shared_slice_known-1.given 4)
+overflow_cast-clients c = omega (arith, c.type_inv.file 4)
 
 pub returns-then-clients-gt-CLIENTS : goal.returns-then-clients-gt-CLIENTS
 returns-then-clients-gt-CLIENTS c = rw (le-ltb _ _ c.if-file-lt5.false, lt-ltb _ _ c.if-clients-gt-CLIENTS.true)

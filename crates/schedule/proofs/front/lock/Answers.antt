@@ -11,7 +11,7 @@ pub returns-then-width-eq0 : goal.returns-then-width-eq0
 returns-then-width-eq0 c = rw (le-ltb _ _ c.if-file-lt9.false, eq-eqb _ _ c.if-width-eq0.true)
 
 pub overflow_cast-width : goal.overflow_cast-width
-overflow_cast-width c = omega (arith, c.shared_slice_known-2-1.given 4)
+overflow_cast-width c = omega (arith, c.type_inv.file 4)
 
 pub returns-then-width-gt-WIDTH : goal.returns-then-width-gt-WIDTH
 returns-then-width-gt-WIDTH c = rw (le-ltb _ _ c.if-file-lt9.false, ne_eqb _ _ c.if-width-eq0.false, lt-ltb _ _ c.if-width-gt-WIDTH.true)

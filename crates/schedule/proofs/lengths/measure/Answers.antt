@@ -11,7 +11,7 @@ pub returns-then-n-eq0 : goal.returns-then-n-eq0
 returns-then-n-eq0 c = search at_zero
 
 pub overflow_cast-size : goal.overflow_cast-size
-overflow_cast-size c = omega (arith, c.shared_slice_known-2-1.given c.args.at)
+overflow_cast-size c = omega (arith, c.type_inv.file c.args.at)
 
 pub returns-then-file-b : goal.returns-then-file-b
 returns-then-file-b c = search at_past
