@@ -1,6 +1,6 @@
 -- The source's own proofs: `initialize` has the eight invariants, each transition keeps them, and under them deposits and withdrawals are safe. So the
 -- transcription is tried by itself, apart from the machine. Assumes nothing.
-use Prim.Native.Nat.{ℕ, ◌+◌, ◌<◌}
+use Prim.Native.Nat.{ℕ, ◌<◌}
 use mathlib.Core.Path.{◌≡◌, refl, sym, ap, ◌∙◌}
 use mathlib.Core.Bool.{true, false}
 use mathlib.Core.Logic.{◌⊎◌, inl, inr}

@@ -1,11 +1,11 @@
 -- The table of codes: flat_combine.rs goes on exactly where no line applies, and the tests of a sound state tell the lines. Assumes nothing.
-use Prim.Native.Nat.{ℕ, ◌≤◌, ◌<◌}
+use Prim.Native.Nat.{ℕ, ◌<◌}
 use mathlib.Core.Path.{◌≡◌, refl, sym, ◌∙◌}
 use mathlib.Core.Bool.{Bool, true, false}
 use mathlib.Core.List.{List}
 use mathlib.Core.Option.{Option, none, some}
 use native.Mathlib.Omega.{arith}
-use lib.Dec.{eqb, ltb}
+use lib.Dec.{ltb}
 use lib.ListN.{length, get_or}
 use borrow.Author.Tests.{eqb-true, eqb-false, ltb-true, ltb-false, not-true, not-false}
 use Rattle.rows.proofs.Cases.{clash}
@@ -24,7 +24,7 @@ use Rattle.flat.specs.declared.state.Client.{Client}
 use Rattle.flat.specs.declared.state.Elem.{Elem}
 use Rattle.flat.specs.declared.state.State.{State}
 use Rattle.flat.proofs.Stages.{responding, gathered_room}
-use Rattle.flat.proofs.Values.{given_some, of_idle, of_waits, elem_some}
+use Rattle.flat.proofs.Values.{given_some, of_idle, of_waits}
 use Rattle.flat.proofs.Elems.{gathered_length, gathered_at}
 use Rattle.flat.proofs.Sounds.{means_stages}
 use Rattle.flat.proofs.Upheld.{no_value, has_request}

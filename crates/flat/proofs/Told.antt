@@ -13,9 +13,8 @@ use Rattle.machine.proofs.Known.{there_same, rows_alike}
 use Rattle.flat.specs.Source as source
 use Rattle.flat.specs.Source.{FlatCombiner, Waiting, Idle, Collecting, Responding}
 use Rattle.flat.specs.Flat.{zero_client, zero_elem, client, elem}
-use Rattle.flat.specs.Refined.{given, client_of, elem_of, gathered, combiner_of, abs, Sound}
+use Rattle.flat.specs.Refined.{given, client_of, gathered, abs, Sound}
 use Rattle.flat.specs.declared.state.Client.{Client}
-use Rattle.flat.specs.declared.state.Elem.{Elem}
 use Rattle.flat.specs.declared.state.State.{State}
 use Rattle.flat.proofs.Stages.{gathered_room}
 use Rattle.flat.proofs.Elems.{gathered_length, gathered_at}

@@ -1,13 +1,12 @@
 -- The table of codes: dist_rwlock.rs goes on exactly where no line applies, below the limit, and the tests of a sound state tell the lines. Assumes nothing.
 use Prim.Native.Nat.{ℕ, ◌≤◌}
 use mathlib.Core.Path.{◌≡◌, refl, sym, ◌∙◌}
-use mathlib.Core.Bool.{Bool, true, false}
 use mathlib.Core.Logic.{inl, inr}
 use mathlib.Core.Option.{Option, none, some}
 use native.Mathlib.Omega.{arith}
-use lib.Dec.{eqb, ltb}
+use lib.Dec.{ltb}
 use borrow.Author.Tests.{eqb-true, eqb-false, ltb-true, ltb-false, not-true, not-false}
-use Rattle.rows.proofs.Cases.{on, cannot, clash}
+use Rattle.rows.proofs.Cases.{cannot, clash}
 use Rattle.machine.specs.Codes as code
 use Rattle.machine.specs.Sourced.{Clear, Applies}
 use Rattle.machine.proofs.Known.{must_be, must_hold, one_held, there}
@@ -21,7 +20,7 @@ use Rattle.lock.specs.Invariants.{IsSome, Invariants}
 use Rattle.lock.specs.Lock.{cell, tests}
 use Rattle.lock.specs.Refined.{abs, label, lines, Sound}
 use Rattle.lock.specs.declared.state.State.{State}
-use Rattle.lock.proofs.Filtered.{stands, carrying_none}
+use Rattle.lock.proofs.Filtered.{carrying_none}
 use Rattle.lock.proofs.Plain.{guards}
 
 -- ---------- the source alone

@@ -1,5 +1,5 @@
 -- What a file says: a schedule of one of the four kinds, or its one fault. And the file that says it. Assumes nothing.
-use Rattle.std.specs.Prelude.{ℕ, ◌+◌, ◌≤◌, ◌<◌, ◌^◌, Bool, List, [], ◌∷◌, ◌++◌, map, length}
+use Rattle.std.specs.Prelude.{ℕ, ◌≤◌, ◌<◌, ◌^◌, Bool, List, [], ◌∷◌, ◌++◌, map, length}
 use mir.Val.{bool_byte}
 use Rattle.rows.specs.Bytes.{big}
 use Rattle.rows.specs.Walk.{pieces}

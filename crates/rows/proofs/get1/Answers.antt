@@ -2,7 +2,6 @@
 use mathlib.Core.Path.{sym}
 use native.Mathlib.Omega.{arith}
 use Rattle.rows.proofs.Bytes.{number_at_one, number_at_outside}
-use borrow.Author.Rules.{rules}
 use Rattle.rows.proofs.get1.Goals as goal
 
 pub returns-then-s-at : goal.returns-then-s-at

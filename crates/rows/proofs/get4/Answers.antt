@@ -3,7 +3,6 @@ use Prim.Native.Nat.{◌+◌}
 use mathlib.Core.Path.{refl}
 use native.Mathlib.Omega.{arith}
 use Rattle.rows.proofs.Bytes.{bytes_at_inside, take_one, number_at_outside}
-use borrow.Author.Rules.{rules}
 use Rattle.rows.proofs.get4.Goals as goal
 
 pub returns-then-s-lt4 : goal.returns-then-s-lt4

@@ -1,11 +1,9 @@
 -- `put` meets its contract. The loop's invariant: storing what is left at the place reached ends as storing all at the start. Assumes nothing.
-use borrow.Author.Rules.{rules}
 use native.Mathlib.Omega.{arith}
 use mathlib.Core.Path.{◌≡◌}
 use mathlib.Core.List.{[], ◌∷◌}
-use Prim.Native.Nat.{◌≤◌, ◌-◌, ◌+◌}
-use lib.ListN.{length, drop, get_or, length-set}
-use Rattle.rows.specs.Stores.{puts}
+use Prim.Native.Nat.{◌+◌}
+use lib.ListN.{drop, get_or, length-set}
 use Rattle.rows.proofs.Rows.{drop_one, drop_end}
 use Rattle.rows.proofs.Stores.{whole_laid, none_laid}
 use Rattle.rows.proofs.put.Goals as goal

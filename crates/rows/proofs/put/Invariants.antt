@@ -1,13 +1,8 @@
 -- `put` meets its contract. The loop's invariant: storing what is left at the place reached ends as storing all at the start. Assumes nothing.
-use borrow.Author.Rules.{rules}
-use native.Mathlib.Omega.{arith}
 use mathlib.Core.Path.{◌≡◌}
-use mathlib.Core.List.{[], ◌∷◌}
 use Prim.Native.Nat.{◌≤◌, ◌-◌, ◌+◌}
-use lib.ListN.{length, drop, get_or, length-set}
+use lib.ListN.{length, drop}
 use Rattle.rows.specs.Stores.{puts}
-use Rattle.rows.proofs.Rows.{drop_one, drop_end}
-use Rattle.rows.proofs.Stores.{whole_laid, none_laid}
 use Rattle.rows.proofs.put.Given as goal
 
 abbrev pub invariant-loop-i : goal.invariant-loop-i

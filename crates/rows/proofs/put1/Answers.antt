@@ -3,7 +3,6 @@ use mathlib.Core.Path.{refl}
 use mathlib.Core.List.{[], ◌∷◌}
 use native.Mathlib.Omega.{arith}
 use Rattle.rows.proofs.Stores.{whole_laid, none_laid}
-use borrow.Author.Rules.{rules}
 use Rattle.rows.proofs.put1.Goals as goal
 
 pub returns-then-dst-at : goal.returns-then-dst-at

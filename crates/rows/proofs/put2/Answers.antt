@@ -4,7 +4,6 @@ use native.Mathlib.Omega.{arith}
 use lib.ListN.{length-set}
 use Rattle.rows.specs.Bytes.{big}
 use Rattle.rows.proofs.Stores.{whole_laid, none_laid}
-use borrow.Author.Rules.{rules}
 use Rattle.rows.proofs.put2.Goals as goal
 
 pub returns-then-dst-lt2 : goal.returns-then-dst-lt2

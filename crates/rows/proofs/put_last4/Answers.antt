@@ -5,7 +5,6 @@ use native.Mathlib.Omega.{arith}
 use lib.ListN.{length-set}
 use Rattle.rows.specs.Bytes.{big}
 use Rattle.rows.proofs.Stores.{whole_laid, none_laid}
-use borrow.Author.Rules.{rules}
 use Rattle.rows.proofs.put_last4.Goals as goal
 
 pub returns-then-dst-lt4 : goal.returns-then-dst-lt4

@@ -1,5 +1,4 @@
 -- `counting::entry::put_entry` meets its contract: each case has its tag. Assumes nothing.
-use borrow.Author.Rules.{rules}
 use Rattle.rows.proofs.Stores.{laid_same}
 use Rattle.counting.specs.Image.{entry_bytes}
 use Rattle.counting.proofs.entry.put_entry.Goals as goal

@@ -3,7 +3,6 @@ use native.Mathlib.Omega.{arith}
 use lib.ListN.{length-set}
 use Rattle.rows.proofs.Stores.{too_short, too_far}
 use Rattle.counting.proofs.Writes.{tagged_laid, tagged_length}
-use borrow.Author.Rules.{rules}
 use Rattle.counting.proofs.entry.put_tagged.Goals as goal
 
 pub returns-then-log-lt6 : goal.returns-then-log-lt6

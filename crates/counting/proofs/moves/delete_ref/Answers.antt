@@ -1,6 +1,5 @@
 -- `counting::moves::delete_ref` meets its contract: its tests go in the order of the definition's, and what is above 0 can be counted down. Assumes nothing.
 use borrow.Author.Tests.{lt-ltb, le-ltb, eq-eqb, ne_eqb}
-use borrow.Author.Rules.{rules}
 use Rattle.counting.proofs.moves.delete_ref.Goals as goal
 
 pub returns-then-s-gt0-2 : goal.returns-then-s-gt0-2

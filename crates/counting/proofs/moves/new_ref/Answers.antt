@@ -1,6 +1,5 @@
 -- `counting::moves::new_ref` meets its contract: its tests go in the order of the definition's, and what is below the limit can be counted up. Assumes nothing.
 use borrow.Author.Tests.{lt-ltb, le-ltb}
-use borrow.Author.Rules.{rules}
 use Rattle.counting.proofs.moves.new_ref.Goals as goal
 
 pub returns-then-s-lt-COUNTER-2 : goal.returns-then-s-lt-COUNTER-2

@@ -1,5 +1,4 @@
 -- `counting::single::apply` meets its contract: each arm is its step's own answer. Assumes nothing.
-use borrow.Author.Rules.{rules}
 use Rattle.counting.proofs.Stepping.{silent_step, refused_step, logged_step}
 use Rattle.counting.proofs.single.apply.Goals as goal
 

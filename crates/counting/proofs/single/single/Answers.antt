@@ -1,5 +1,4 @@
 -- `counting::single::single` meets its contract: a step of this kind is tested, one of another is refused. Assumes nothing.
-use borrow.Author.Rules.{rules}
 use Rattle.machine.proofs.Answering.{own_step, foreign}
 use Rattle.counting.specs.Single.{stepper}
 use Rattle.counting.proofs.single.single.Goals as goal

@@ -1,6 +1,5 @@
 -- `counting::state::image` meets its contract: four pieces, each laid behind the one before it. Assumes nothing.
 use Rattle.counting.proofs.Writes.{image_short, image_laid}
-use borrow.Author.Rules.{rules}
 use Rattle.counting.proofs.state.image.Goals as goal
 
 pub returns-then-out-lt7 : goal.returns-then-out-lt7

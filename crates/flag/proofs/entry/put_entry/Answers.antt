@@ -1,5 +1,4 @@
 -- `flag::entry::put_entry` meets its contract: each entry is laid down by its own writer. Assumes nothing.
-use borrow.Author.Rules.{rules}
 use Rattle.rows.proofs.Stores.{laid_same}
 use Rattle.flag.specs.Image.{entry_bytes}
 use Rattle.flag.proofs.entry.put_entry.Goals as goal

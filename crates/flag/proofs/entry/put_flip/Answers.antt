@@ -1,6 +1,5 @@
 -- `flag::entry::put_flip` meets its contract: its stores are a run of stores, or none is made. Assumes nothing.
 use native.Mathlib.Omega.{arith}
-use borrow.Author.Rules.{rules}
 use lib.ListN.{length-set}
 use Rattle.rows.proofs.Stores.{too_short, too_far}
 use Rattle.flag.proofs.Writes.{flip_laid}

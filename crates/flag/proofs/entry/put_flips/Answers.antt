@@ -1,5 +1,4 @@
 -- `flag::entry::put_flips` meets its contract: the offered flip is laid down first, then the mover's. Assumes nothing.
-use borrow.Author.Rules.{rules}
 use Rattle.flag.proofs.Writes.{flips_nobody, flips_mover, flips_short, flips_past, flips_both}
 use Rattle.flag.proofs.entry.put_flips.Goals as goal
 

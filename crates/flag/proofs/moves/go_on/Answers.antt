@@ -1,6 +1,5 @@
 -- `flag::moves::go_on` meets its contract: at each place it tests as the definition does. Assumes nothing.
 use borrow.Author.Tests.{ne_eqb}
-use borrow.Author.Rules.{rules}
 use Rattle.flag.proofs.moves.go_on.Goals as goal
 
 pub returns-then-pending-eq1 : goal.returns-then-pending-eq1

@@ -1,8 +1,6 @@
 -- `flag::moves::offerer` meets its contract: no thread passed by the loop offers, and what is left of the row decides. Assumes nothing.
-use Prim.Native.Nat.{◌-◌}
 use borrow.Author.Rules.{rules}
-use Rattle.schedule.specs.Limits as limit
-use Rattle.flag.proofs.Looking.{Looking, looking_begins, looking_stops, looking_more, looking_ends}
+use Rattle.flag.proofs.Looking.{looking_begins, looking_stops, looking_more, looking_ends}
 use Rattle.flag.proofs.moves.offerer.Goals as goal
 
 pub loop-i-init : goal.loop-i-init

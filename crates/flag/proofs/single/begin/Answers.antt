@@ -1,5 +1,4 @@
 -- `flag::single::begin` meets its contract: its tests decide the code, and a sound state has room for each of its threads. Assumes nothing.
-use borrow.Author.Rules.{rules}
 use Rattle.flag.proofs.Moved.{thread_inside}
 use Rattle.machine.proofs.Answering.{quiet_fair}
 use Rattle.flag.specs.Single.{stepper}

@@ -1,5 +1,4 @@
 -- `flag::single::move_on` meets its contract: its tests decide the code, and a thread of a sound state stands at a place of the loop. Assumes nothing.
-use borrow.Author.Rules.{rules}
 use Rattle.flag.proofs.Moved.{thread_inside}
 use Rattle.flag.proofs.Arms.{move_outside, move_idle, move_fair}
 use Rattle.flag.proofs.Stepping.{refused, move_accepted}

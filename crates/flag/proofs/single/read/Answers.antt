@@ -1,5 +1,4 @@
 -- `flag::single::read` meets its contract: its tests decide the code, and the entry fits into the log. Assumes nothing.
-use borrow.Author.Rules.{rules}
 use Rattle.flag.proofs.Moved.{thread_inside}
 use Rattle.flag.proofs.Arms.{read_outside, read_busy, read_fair}
 use Rattle.flag.proofs.Stepping.{refused, read_accepted}

@@ -1,5 +1,4 @@
 -- `flag::single::single` meets its contract: a step of this kind is tested, one of another is refused. Assumes nothing.
-use borrow.Author.Rules.{rules}
 use Rattle.machine.proofs.Answering.{own_step, foreign}
 use Rattle.flag.specs.Single.{stepper}
 use Rattle.flag.proofs.single.single.Goals as goal

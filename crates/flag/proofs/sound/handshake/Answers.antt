@@ -1,6 +1,5 @@
 -- `flag::sound::handshake` meets its contract: it makes the definition's tests in their order. Assumes nothing.
 use borrow.Author.Tests.{eq-eqb, ne_eqb}
-use borrow.Author.Rules.{rules}
 use Rattle.flag.proofs.sound.handshake.Goals as goal
 
 pub returns-then-fives-eq0 : goal.returns-then-fives-eq0

@@ -1,6 +1,5 @@
 -- `flag::sound::is_sound` meets its contract: it makes the definition's tests in their order. Assumes nothing.
 use borrow.Author.Tests.{lt-ltb, le-ltb, eq-eqb, ne_eqb}
-use borrow.Author.Rules.{rules}
 use Rattle.flag.proofs.sound.is_sound.Goals as goal
 
 pub returns-then-s-eq0 : goal.returns-then-s-eq0

@@ -1,8 +1,6 @@
 -- `flag::sound::places_sound` meets its contract: what is left of the row decides, and the counts go on with it. Assumes nothing.
-use Prim.Native.Nat.{◌-◌}
 use borrow.Author.Rules.{rules}
-use Rattle.schedule.specs.Limits as limit
-use Rattle.flag.proofs.Walking.{Walking, walking_begins, walking_few, five_fits, six_fits, walking_stops, walking_more, walking_ends}
+use Rattle.flag.proofs.Walking.{walking_begins, walking_few, five_fits, six_fits, walking_stops, walking_more, walking_ends}
 use Rattle.flag.proofs.sound.places_sound.Goals as goal
 
 pub loop-i-init : goal.loop-i-init

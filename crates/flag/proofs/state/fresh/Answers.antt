@@ -1,6 +1,5 @@
 -- `flag::state::fresh` meets its contract: it makes the definition's tests in their order. Assumes nothing.
 use borrow.Author.Tests.{lt-ltb, le-ltb, eq-eqb, ne_eqb}
-use borrow.Author.Rules.{rules}
 use Rattle.flag.proofs.state.fresh.Goals as goal
 
 pub returns-then-threads-eq0 : goal.returns-then-threads-eq0

@@ -1,5 +1,4 @@
 -- `flat::combiner::combiner_recv` meets its contract: the slot and the stored request decide. Assumes nothing.
-use borrow.Author.Rules.{rules}
 use Rattle.flat.proofs.combiner.combiner_recv.Goals as goal
 
 pub returns-then-c-2 : goal.returns-then-c-2

@@ -1,6 +1,5 @@
 -- `flat::combiner::may_answer` meets its contract: the mode and the cursor decide. Assumes nothing.
 use borrow.Author.Tests.{lt-ltb, le-ltb}
-use borrow.Author.Rules.{rules}
 use Rattle.flat.proofs.combiner.may_answer.Goals as goal
 
 pub returns-then-idx-count : goal.returns-then-idx-count

@@ -1,6 +1,5 @@
 -- `flat::combiner::may_collect` meets its contract: the mode and the cursor decide. Assumes nothing.
 use borrow.Author.Tests.{eq-eqb, ne_eqb}
-use borrow.Author.Rules.{rules}
 use Rattle.flat.proofs.combiner.may_collect.Goals as goal
 
 pub returns-then-idx-count : goal.returns-then-idx-count

@@ -1,6 +1,5 @@
 -- `flat::combiner::may_gather` meets its contract: the mode and the cursor decide. Assumes nothing.
 use borrow.Author.Tests.{lt-ltb, le-ltb}
-use borrow.Author.Rules.{rules}
 use Rattle.flat.proofs.combiner.may_gather.Goals as goal
 
 pub returns-then-len-count : goal.returns-then-len-count

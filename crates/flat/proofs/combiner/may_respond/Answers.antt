@@ -1,6 +1,5 @@
 -- `flat::combiner::may_respond` meets its contract: the mode and the cursor decide. Assumes nothing.
 use borrow.Author.Tests.{eq-eqb, ne_eqb}
-use borrow.Author.Rules.{rules}
 use Rattle.flat.proofs.combiner.may_respond.Goals as goal
 
 pub returns-then-len-count : goal.returns-then-len-count

@@ -1,6 +1,5 @@
 -- `flat::entry::put_entry` meets its contract: nothing where the bytes do not fit, else two bytes and the two numbers behind them. Assumes nothing.
 use native.Mathlib.Omega.{arith}
-use borrow.Author.Rules.{rules}
 use lib.ListN.{length-set}
 use Rattle.rows.proofs.Stores.{too_short, too_far}
 use Rattle.flat.proofs.Writes.{entry_laid, entry_length}

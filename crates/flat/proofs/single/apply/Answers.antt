@@ -1,5 +1,4 @@
 -- `flat::single::apply` meets its contract: each arm is its step's own answer. Assumes nothing.
-use borrow.Author.Rules.{rules}
 use Rattle.machine.proofs.Answering.{matched, matched_silent}
 use Rattle.flat.specs.Single.{stepper}
 use Rattle.flat.proofs.single.apply.Goals as goal

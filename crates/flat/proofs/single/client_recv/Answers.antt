@@ -1,5 +1,4 @@
 -- `flat::single::client_recv` meets its contract: soundness promises the client's response, and its entry goes over the front of the log. Assumes nothing.
-use borrow.Author.Rules.{rules}
 use Rattle.flat.proofs.Moved.{client_inside}
 use Rattle.flat.proofs.Stepping.{client_recv_stopped, client_recv_refused, client_recv_accepted}
 use Rattle.flat.proofs.single.client_recv.Goals as goal

@@ -1,5 +1,4 @@
 -- `flat::single::client_send` meets its contract: the place's test, and then the client. Assumes nothing.
-use borrow.Author.Rules.{rules}
 use Rattle.machine.proofs.Answering.{quiet_refused, quiet_fair}
 use Rattle.flat.specs.Single.{stepper}
 use Rattle.flat.proofs.Moved.{client_inside}

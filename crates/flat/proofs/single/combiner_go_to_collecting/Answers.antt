@@ -1,5 +1,4 @@
 -- `flat::single::combiner_go_to_collecting` meets its contract: the combiner's tests decide. Assumes nothing.
-use borrow.Author.Rules.{rules}
 use Rattle.machine.proofs.Answering.{quiet_refused, quiet_fair}
 use Rattle.flat.specs.Single.{stepper}
 use Rattle.flat.proofs.Arms.{combiner_go_to_collecting_fair}

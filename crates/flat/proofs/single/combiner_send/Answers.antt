@@ -1,5 +1,4 @@
 -- `flat::single::combiner_send` meets its contract: the combiner's tests, then the element at the cursor, which soundness puts inside the row. Assumes nothing.
-use borrow.Author.Rules.{rules}
 use Rattle.machine.proofs.Answering.{quiet_refused, quiet_fair}
 use Rattle.flat.specs.Single.{stepper}
 use Rattle.flat.proofs.Moved.{answer_inside, answer_fits}

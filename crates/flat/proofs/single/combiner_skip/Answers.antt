@@ -1,5 +1,4 @@
 -- `flat::single::combiner_skip` meets its contract: the combiner's tests decide, and soundness puts the cursor inside the row. Assumes nothing.
-use borrow.Author.Rules.{rules}
 use Rattle.machine.proofs.Answering.{quiet_refused, quiet_fair}
 use Rattle.flat.specs.Single.{stepper}
 use Rattle.flat.proofs.Moved.{gather_inside, gather_fits}

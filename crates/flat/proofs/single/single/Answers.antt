@@ -1,5 +1,4 @@
 -- `flat::single::single` meets its contract: a step of this kind is tested, any other is malformed. Assumes nothing.
-use borrow.Author.Rules.{rules}
 use Rattle.machine.proofs.Answering.{own_step, foreign}
 use Rattle.flat.specs.Single.{stepper}
 use Rattle.flat.proofs.single.single.Goals as goal

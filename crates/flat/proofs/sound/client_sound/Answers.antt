@@ -1,6 +1,5 @@
 -- `flat::sound::client_sound` meets its contract: its flags decide which of the four tests applies. Assumes nothing.
 use borrow.Author.Tests.{le-leb, lt-leb, eq-eqb, ne_eqb}
-use borrow.Author.Rules.{rules}
 use Rattle.flat.proofs.sound.client_sound.Goals as goal
 
 pub returns-then-count-j : goal.returns-then-count-j

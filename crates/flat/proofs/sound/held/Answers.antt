@@ -1,6 +1,5 @@
 -- `flat::sound::held` meets its contract: the flag and the two cursors decide. Assumes nothing.
 use borrow.Author.Tests.{lt-ltb, le-ltb}
-use borrow.Author.Rules.{rules}
 use Rattle.flat.proofs.sound.held.Goals as goal
 
 pub returns-then-j-len : goal.returns-then-j-len

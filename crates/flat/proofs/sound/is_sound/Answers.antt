@@ -1,5 +1,4 @@
 -- `flat::sound::is_sound` meets its contract: the combiner's test, and then the places. Assumes nothing.
-use borrow.Author.Rules.{rules}
 use Rattle.flat.proofs.sound.is_sound.Goals as goal
 
 pub returns-then-combiner_sound : goal.returns-then-combiner_sound

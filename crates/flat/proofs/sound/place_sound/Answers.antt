@@ -1,5 +1,4 @@
 -- `flat::sound::place_sound` meets its contract: the element's test, and then the client's. Assumes nothing.
-use borrow.Author.Rules.{rules}
 use Rattle.flat.proofs.sound.place_sound.Goals as goal
 
 pub returns-then-elem_sound : goal.returns-then-elem_sound

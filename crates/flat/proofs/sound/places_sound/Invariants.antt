@@ -1,8 +1,6 @@
 -- `flat::sound::places_sound` meets its contract: the loop's invariant says that the places left decide; the measure is how many are left. Assumes nothing.
 use Prim.Native.Nat.{◌-◌}
-use borrow.Author.Rules.{rules}
-use Rattle.rows.proofs.Rows.{row_long}
-use Rattle.rows.proofs.Testing.{Testing, testing_begins, testing_more, testing_stops, testing_ends}
+use Rattle.rows.proofs.Testing.{Testing}
 use Rattle.schedule.specs.Limits as limit
 use Rattle.flat.specs.Sound.{place_sound}
 use Rattle.flat.proofs.sound.places_sound.Given as goal

@@ -1,6 +1,5 @@
 -- `flat::sound::resting` meets its contract: flags and numbers are tested one after the other. Assumes nothing.
 use borrow.Author.Tests.{eq-eqb, ne_eqb}
-use borrow.Author.Rules.{rules}
 use Rattle.flat.proofs.sound.resting.Goals as goal
 
 pub returns-then-c-ne0 : goal.returns-then-c-ne0

@@ -1,6 +1,5 @@
 -- `flat::state::fresh` meets its contract: the number of clients decides. Assumes nothing.
 use borrow.Author.Tests.{lt-ltb, le-ltb}
-use borrow.Author.Rules.{rules}
 use Rattle.flat.proofs.state.fresh.Goals as goal
 
 pub returns-then-clients-gt-CLIENTS : goal.returns-then-clients-gt-CLIENTS

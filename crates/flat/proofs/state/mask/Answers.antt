@@ -1,7 +1,7 @@
 -- `flat::state::mask` meets its contract: the loop's invariant says that the mask holds the slots passed; the measure is how many clients are left. Assumes nothing.
 use borrow.Author.Rules.{rules}
 use Rattle.rows.proofs.Rows.{row_long}
-use Rattle.flat.proofs.Packing.{Packing, packing_begins, packing_more, packing_ends}
+use Rattle.flat.proofs.Packing.{packing_begins, packing_more, packing_ends}
 use Rattle.flat.proofs.state.mask.Goals as goal
 
 pub loop-i-init : goal.loop-i-init

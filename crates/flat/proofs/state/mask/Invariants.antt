@@ -1,7 +1,5 @@
 -- `flat::state::mask` meets its contract: the loop's invariant says that the mask holds the slots passed; the measure is how many clients are left. Assumes nothing.
-use borrow.Author.Rules.{rules}
-use Rattle.rows.proofs.Rows.{row_long}
-use Rattle.flat.proofs.Packing.{Packing, packing_begins, packing_more, packing_ends}
+use Rattle.flat.proofs.Packing.{Packing}
 use Rattle.flat.proofs.state.mask.Given as goal
 
 abbrev pub invariant-loop-i : goal.invariant-loop-i

@@ -1,5 +1,4 @@
 -- `flat::state::put_client` meets its contract: flag and id, the request behind them, and the response behind that. Assumes nothing.
-use borrow.Author.Rules.{rules}
 use Rattle.flat.proofs.Writes.{request_room, response_room, client_laid}
 use Rattle.flat.proofs.state.put_client.Goals as goal
 

@@ -1,12 +1,10 @@
 -- `flat::state::put_clients` meets its contract: the loop's invariant says that the clients left lay down the rest; the measure is how many are left. Assumes nothing.
 use mathlib.Core.Path.{refl}
-use Prim.Native.Nat.{◌-◌}
 use borrow.Author.Rules.{rules}
 use Rattle.rows.proofs.Rows.{row_long}
-use Rattle.schedule.specs.Limits as limit
 use Rattle.flat.specs.Flat.{zero_client}
 use Rattle.flat.specs.Image.{client_bytes}
-use Rattle.rows.proofs.Laying.{Laying, laying_begins, laying_more, laying_ends}
+use Rattle.rows.proofs.Laying.{laying_begins, laying_more, laying_ends}
 use Rattle.flat.proofs.state.put_clients.Goals as goal
 
 pub loop-i-init : goal.loop-i-init

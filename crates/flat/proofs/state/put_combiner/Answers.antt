@@ -1,5 +1,4 @@
 -- `flat::state::put_combiner` meets its contract: the mask and three bytes behind it. Assumes nothing.
-use borrow.Author.Rules.{rules}
 use Rattle.flat.proofs.Writes.{combiner_laid}
 use Rattle.flat.proofs.state.put_combiner.Goals as goal
 

@@ -1,5 +1,4 @@
 -- `flat::state::put_elem` meets its contract: the flag and the id behind it. Assumes nothing.
-use borrow.Author.Rules.{rules}
 use Rattle.flat.proofs.Writes.{elem_laid}
 use Rattle.flat.proofs.state.put_elem.Goals as goal
 

@@ -1,5 +1,4 @@
 -- `flat::state::put_message` meets its contract: the flag, and the two numbers as they are shown. Assumes nothing.
-use borrow.Author.Rules.{rules}
 use Rattle.flat.proofs.Writes.{message_laid}
 use Rattle.flat.proofs.state.put_message.Goals as goal
 

@@ -1,5 +1,4 @@
 -- `lock::entry::put_entry` meets its contract: each entry is laid down by its own function. Assumes nothing.
-use borrow.Author.Rules.{rules}
 use Rattle.rows.proofs.Stores.{laid_same}
 use Rattle.lock.specs.Image.{entry_bytes}
 use Rattle.lock.proofs.entry.put_entry.Goals as goal

@@ -1,6 +1,5 @@
 -- `lock::entry::put_granted` meets its contract: nothing where the bytes do not fit, else three stores and the number behind them. Assumes nothing.
 use native.Mathlib.Omega.{arith}
-use borrow.Author.Rules.{rules}
 use lib.ListN.{length-set}
 use Rattle.rows.proofs.Stores.{too_short, too_far}
 use Rattle.lock.proofs.Writes.{granted_laid, three_length}

@@ -1,6 +1,5 @@
 -- `lock::entry::put_withdrawn` meets its contract: nothing where the bytes do not fit, else two stores and the number behind them. Assumes nothing.
 use native.Mathlib.Omega.{arith}
-use borrow.Author.Rules.{rules}
 use lib.ListN.{length-set}
 use Rattle.rows.proofs.Stores.{too_short, too_far}
 use Rattle.lock.proofs.Writes.{withdrawn_laid, two_length}

@@ -1,6 +1,5 @@
 -- `lock::reader::shared_finish` meets its contract: a pending reader decides, then the range of the numbers. Assumes nothing.
 use borrow.Author.Tests.{lt-ltb, le-ltb}
-use borrow.Author.Rules.{rules}
 use Rattle.lock.proofs.reader.shared_finish.Goals as goal
 
 pub returns-then-c-lt-COUNTER : goal.returns-then-c-lt-COUNTER

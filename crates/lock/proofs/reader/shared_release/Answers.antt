@@ -1,6 +1,5 @@
 -- `lock::reader::shared_release` meets its contract: the guard, the store and the record decide, then the range of the numbers. Assumes nothing.
 use borrow.Author.Tests.{lt-ltb, le-ltb, eq-eqb, ne_eqb}
-use borrow.Author.Rules.{rules}
 use Rattle.lock.proofs.reader.shared_release.Goals as goal
 
 pub returns-then-c-gt0-2 : goal.returns-then-c-gt0-2

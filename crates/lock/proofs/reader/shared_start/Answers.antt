@@ -1,6 +1,5 @@
 -- `lock::reader::shared_start` meets its contract: the room at the counter decides, then the range of the numbers. Assumes nothing.
 use borrow.Author.Tests.{lt-ltb, le-ltb}
-use borrow.Author.Rules.{rules}
 use Rattle.lock.proofs.reader.shared_start.Goals as goal
 
 pub returns-then-c-lt-COUNTER-2 : goal.returns-then-c-lt-COUNTER-2

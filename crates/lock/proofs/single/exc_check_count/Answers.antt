@@ -1,5 +1,4 @@
 -- `lock::single::exc_check_count` meets its contract: the head's tests, and then the cell at the cursor, which soundness puts inside the row. Assumes nothing.
-use borrow.Author.Rules.{rules}
 use Rattle.machine.proofs.Answering.{quiet_refused, quiet_fair}
 use Rattle.lock.specs.Single.{stepper}
 use Rattle.lock.proofs.Moved.{cursor_inside}

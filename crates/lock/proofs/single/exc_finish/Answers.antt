@@ -1,5 +1,4 @@
 -- `lock::single::exc_finish` meets its contract: the moved head decides, and the entry lies over the front of the log. Assumes nothing.
-use borrow.Author.Rules.{rules}
 use Rattle.machine.proofs.Answering.{fair_refused, fair_accepted}
 use Rattle.lock.specs.Single.{stepper}
 use Rattle.lock.proofs.Arms.{exc_finish_fair}

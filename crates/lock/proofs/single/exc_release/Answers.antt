@@ -1,5 +1,4 @@
 -- `lock::single::exc_release` meets its contract: the moved head's code and state are the definition's. Assumes nothing.
-use borrow.Author.Rules.{rules}
 use Rattle.machine.proofs.Answering.{quiet_fair}
 use Rattle.lock.specs.Single.{stepper}
 use Rattle.lock.proofs.Arms.{exc_release_fair}

@@ -1,5 +1,4 @@
 -- `lock::single::shared_finish` meets its contract: the head's tests, then the cell's, and the entry over the front of the log. Assumes nothing.
-use borrow.Author.Rules.{rules}
 use Rattle.machine.proofs.Answering.{fair_accepted}
 use Rattle.lock.specs.Single.{stepper}
 use Rattle.lock.proofs.Moved.{finish_inside}

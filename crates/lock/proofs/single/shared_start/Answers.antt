@@ -1,5 +1,4 @@
 -- `lock::single::shared_start` meets its contract: the place's test, and then the cell, whose numbers soundness keeps in range. Assumes nothing.
-use borrow.Author.Rules.{rules}
 use Rattle.machine.proofs.Answering.{quiet_refused, quiet_fair}
 use Rattle.lock.specs.Single.{stepper}
 use Rattle.lock.proofs.Moved.{cell_inside}

@@ -1,5 +1,4 @@
 -- `lock::single::single` meets its contract: a step of this kind is tested, one of another is refused. Assumes nothing.
-use borrow.Author.Rules.{rules}
 use Rattle.machine.proofs.Answering.{own_step, foreign}
 use Rattle.lock.specs.Single.{stepper}
 use Rattle.lock.proofs.single.single.Goals as goal

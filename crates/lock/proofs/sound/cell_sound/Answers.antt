@@ -1,6 +1,5 @@
 -- `lock::sound::cell_sound` meets its contract: each answer is the first of the definition's tests that decides. Assumes nothing.
 use borrow.Author.Tests.{lt-ltb, le-ltb, eq-eqb, ne_eqb}
-use borrow.Author.Rules.{rules}
 use Rattle.lock.proofs.sound.cell_sound.Goals as goal
 
 pub returns-then-c-gt-COUNTER : goal.returns-then-c-gt-COUNTER

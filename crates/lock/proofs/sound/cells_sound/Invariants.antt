@@ -1,8 +1,6 @@
 -- `lock::sound::cells_sound` meets its contract: the loop's invariant says that the cells left decide; the measure is how many are left. Assumes nothing.
 use Prim.Native.Nat.{◌-◌}
-use borrow.Author.Rules.{rules}
-use Rattle.rows.proofs.Rows.{row_long}
-use Rattle.rows.proofs.Testing.{Testing, testing_begins, testing_more, testing_stops, testing_ends}
+use Rattle.rows.proofs.Testing.{Testing}
 use Rattle.schedule.specs.Limits as limit
 use Rattle.lock.specs.Sound.{cell_sound}
 use Rattle.lock.proofs.sound.cells_sound.Given as goal

@@ -1,6 +1,5 @@
 -- `lock::sound::head_sound` meets its contract: each answer is the first of the definition's tests that decides. Assumes nothing.
 use borrow.Author.Tests.{lt-ltb, le-ltb, eq-eqb, ne_eqb}
-use borrow.Author.Rules.{rules}
 use Rattle.lock.proofs.sound.head_sound.Goals as goal
 
 pub returns-then-h-eq0 : goal.returns-then-h-eq0

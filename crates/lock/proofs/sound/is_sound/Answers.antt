@@ -1,5 +1,4 @@
 -- `lock::sound::is_sound` meets its contract: the head's test, then the walk over the cells. Assumes nothing.
-use borrow.Author.Rules.{rules}
 use Rattle.lock.proofs.sound.is_sound.Goals as goal
 
 pub returns-then-head_sound : goal.returns-then-head_sound

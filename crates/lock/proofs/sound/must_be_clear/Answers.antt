@@ -1,5 +1,4 @@
 -- `lock::sound::must_be_clear` meets its contract: the three cases of the writer. Assumes nothing.
-use borrow.Author.Rules.{rules}
 use Rattle.lock.proofs.sound.must_be_clear.Goals as goal
 
 pub returns-then-h-2 : goal.returns-then-h-2

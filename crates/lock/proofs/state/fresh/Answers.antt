@@ -1,6 +1,5 @@
 -- `lock::state::fresh` meets its contract: the width's two tests decide. Assumes nothing.
 use borrow.Author.Tests.{lt-ltb, le-ltb, eq-eqb, ne_eqb}
-use borrow.Author.Rules.{rules}
 use Rattle.lock.proofs.state.fresh.Goals as goal
 
 pub returns-then-width-eq0 : goal.returns-then-width-eq0

@@ -1,15 +1,9 @@
 -- `lock::state::put_cells` meets its contract: the loop's invariant says that the cells left lay down the rest; the measure is how many are left. Assumes nothing.
-use mathlib.Core.Path.{refl}
 use Prim.Native.Nat.{◌-◌}
-use native.Mathlib.Omega.{arith}
-use borrow.Author.Rules.{rules}
-use lib.ListN.{length-set}
-use Rattle.rows.proofs.Rows.{row_long}
-use Rattle.rows.proofs.Laying.{Laying, laying_begins, laying_ends}
+use Rattle.rows.proofs.Laying.{Laying}
 use Rattle.schedule.specs.Limits as limit
 use Rattle.lock.specs.Lock.{zero_cell}
 use Rattle.lock.specs.Image.{cell_bytes}
-use Rattle.lock.proofs.Writes.{cell_more}
 use Rattle.lock.proofs.state.put_cells.Given as goal
 
 abbrev pub invariant-loop-i : goal.invariant-loop-i

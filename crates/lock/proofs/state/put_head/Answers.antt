@@ -1,5 +1,4 @@
 -- `lock::state::put_head` meets its contract: nothing where the bytes do not fit, else the front and the rest behind it. Assumes nothing.
-use borrow.Author.Rules.{rules}
 use Rattle.rows.proofs.Stores.{too_short}
 use Rattle.lock.proofs.Writes.{writer_room, head_laid}
 use Rattle.lock.proofs.state.put_head.Goals as goal

@@ -1,5 +1,4 @@
 -- `lock::state::put_store` meets its contract: two bytes and the number behind them. Assumes nothing.
-use borrow.Author.Rules.{rules}
 use Rattle.lock.proofs.Writes.{store_laid}
 use Rattle.lock.proofs.state.put_store.Goals as goal
 

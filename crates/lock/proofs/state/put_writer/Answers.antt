@@ -1,5 +1,4 @@
 -- `lock::state::put_writer` meets its contract: three bytes, one behind the other. Assumes nothing.
-use borrow.Author.Rules.{rules}
 use Rattle.lock.proofs.Writes.{writer_laid}
 use Rattle.lock.proofs.state.put_writer.Goals as goal
 

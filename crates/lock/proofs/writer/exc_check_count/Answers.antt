@@ -1,6 +1,5 @@
 -- `lock::writer::exc_check_count` meets its contract: the cell's count decides, then the range of the cursor. Assumes nothing.
 use borrow.Author.Tests.{lt-ltb, le-ltb, eq-eqb, ne_eqb}
-use borrow.Author.Rules.{rules}
 use Rattle.lock.proofs.writer.exc_check_count.Goals as goal
 
 pub returns-then-h-lt-COUNTER : goal.returns-then-h-lt-COUNTER

@@ -1,6 +1,5 @@
 -- `lock::writer::may_check` meets its contract: the phase, then the cursor. Assumes nothing.
 use borrow.Author.Tests.{lt-ltb, le-ltb}
-use borrow.Author.Rules.{rules}
 use Rattle.lock.proofs.writer.may_check.Goals as goal
 
 pub returns-then-h-2 : goal.returns-then-h-2

@@ -1,7 +1,6 @@
 -- `schedule::answer::of_fault` meets its contract: the fault's code and its place make the answer. Assumes nothing.
 use mathlib.Core.Path.{◌≡◌, ◌∙◌}
 use Prim.Native.Nat.{ℕ}
-use borrow.Author.Rules.{rules}
 use Rattle.schedule.specs.Front.{fault_code, fault_place}
 use Rattle.schedule.specs.Answers.{refused_as, refused_for}
 use Rattle.schedule.specs.declared.answer.Answer.{Answer}

@@ -1,7 +1,6 @@
 -- `schedule::front::flag` meets its contract: missing bytes, no thread, too many, and a value over 1 are refused in the definition's order. Assumes nothing.
 use native.Mathlib.Omega.{arith}
 use borrow.Author.Tests.{lt-ltb, le-ltb, eq-eqb, ne_eqb}
-use borrow.Author.Rules.{rules}
 use Rattle.schedule.proofs.front.flag.Goals as goal
 
 pub returns-then-file-lt6 : goal.returns-then-file-lt6

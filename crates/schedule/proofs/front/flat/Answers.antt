@@ -1,7 +1,6 @@
 -- `schedule::front::flat` meets its contract: a missing byte and too many clients are refused in the definition's order. Assumes nothing.
 use native.Mathlib.Omega.{arith}
 use borrow.Author.Tests.{lt-ltb, le-ltb}
-use borrow.Author.Rules.{rules}
 use Rattle.schedule.proofs.front.flat.Goals as goal
 
 pub returns-then-file-lt5 : goal.returns-then-file-lt5

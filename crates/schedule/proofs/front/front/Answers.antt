@@ -1,5 +1,4 @@
 -- `schedule::front::front` meets its contract: length, version, body and kind are tested in the definition's order. Assumes nothing.
-use borrow.Author.Rules.{rules}
 use Rattle.schedule.proofs.Opening.{too_short, wrong_length_lem, wrong_version, too_long, opens}
 use Rattle.schedule.proofs.front.front.Goals as goal
 

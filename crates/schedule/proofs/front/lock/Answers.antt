@@ -1,7 +1,6 @@
 -- `schedule::front::lock` meets its contract: missing bytes, width 0 and too large a width are refused in the definition's order, and four bytes make the initial record. Assumes nothing.
 use native.Mathlib.Omega.{arith}
 use borrow.Author.Tests.{lt-ltb, le-ltb, eq-eqb, ne_eqb}
-use borrow.Author.Rules.{rules}
 use Rattle.schedule.proofs.front.lock.Goals as goal
 
 pub returns-then-file-lt9 : goal.returns-then-file-lt9

@@ -1,5 +1,4 @@
 -- `schedule::front::of_kind` meets its contract: each kind's function reads its parameters. Assumes nothing.
-use borrow.Author.Rules.{rules}
 use Rattle.schedule.proofs.Opening.{flat_opens, lock_opens, counting_opens, flag_opens, no_kind}
 use Rattle.schedule.proofs.front.of_kind.Goals as goal
 

@@ -1,7 +1,6 @@
 -- `schedule::lengths::measure` meets its contract: the length byte is tested in the definition's order: 0, past the file's end, not its tag's. Assumes nothing.
 use native.Mathlib.Omega.{arith}
 use Rattle.schedule.proofs.MeasureTests.{at_end, at_zero, at_past, at_whole, at_other}
-use borrow.Author.Rules.{rules}
 use Rattle.schedule.proofs.lengths.measure.Goals as goal
 
 pub returns-then-file-at : goal.returns-then-file-at

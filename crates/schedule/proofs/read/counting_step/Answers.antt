@@ -1,6 +1,5 @@
 -- `schedule::read::counting_step` meets its contract: the tag is the byte behind the length byte, and behind the file's end stands no tag. Assumes nothing.
 use Rattle.schedule.proofs.PastEnd.{too_short, past_end, by_tag}
-use borrow.Author.Rules.{rules}
 use Rattle.schedule.proofs.read.counting_step.Goals as goal
 
 pub returns-then-file-lt2 : goal.returns-then-file-lt2

@@ -1,7 +1,6 @@
 -- `schedule::read::flag_tagged` meets its contract: each tag's numbers are read at the widths of that tag. Assumes nothing.
 use Rattle.schedule.specs.Widths.{widths, widths_of}
 use Rattle.schedule.proofs.Tags.{flag_rest}
-use borrow.Author.Rules.{rules}
 use Rattle.schedule.proofs.read.flag_tagged.Goals as goal
 
 pub returns-then-tag-eq1 : goal.returns-then-tag-eq1

@@ -1,7 +1,6 @@
 -- `schedule::read::lock_tagged` meets its contract: each tag's numbers are read at the widths of that tag. Assumes nothing.
 use Rattle.schedule.specs.Widths.{widths, widths_of}
 use Rattle.schedule.proofs.Tags.{lock_low, lock_high}
-use borrow.Author.Rules.{rules}
 use Rattle.schedule.proofs.read.lock_tagged.Goals as goal
 
 pub returns-then-tag-eq5 : goal.returns-then-tag-eq5

@@ -1,5 +1,4 @@
 -- `schedule::read::read` meets its contract: the place is measured, and a whole step is read by its kind's function. Assumes nothing.
-use borrow.Author.Rules.{rules}
 use Rattle.schedule.proofs.Found.{none_found, broken_found, flat_found, lock_found, counting_found, flag_found}
 use Rattle.schedule.proofs.read.read.Goals as goal
 
