@@ -3,12 +3,16 @@
 // of a byte changed behind what the answer counts.
 #![tactic(auto)]
 
+ghost use Rattle.std.specs.Prelude.{◌≡◌, ◌↔◌, All, drop, IsTrue};
+ghost use Rattle.std.specs.Io.{ReadsAtMost};
 ghost use Rattle.lines.specs.Lines.{InFront};
 
-use libc::STDOUT_FILENO;
 use lines::verdict;
 use schedule::answer::Answer;
 use schedule::limits;
+use std::io::Read;
+use std::rt::Files;
+use std::{env, fs, io};
 
 // what both buffers hold before, and the longest that a case asks for
 const PATTERN: u8 = 170;
@@ -17,99 +21,118 @@ const LOG: usize = 50000;
 
 const STATE: usize = 4096;
 
-fn main() {
-    let n = os::arg_count();
-    let mut i: usize = 1;
-    while i < n {
-        one(i);
-        i += 1;
+fn main(rt: HostRuntime) -> io::Result<()> {
+    for name in env::args(&rt)?.skip(1) {
+        one(&rt, &name)?;
     }
+    Ok(())
 }
 
-fn one(i: usize) {
-    let mut name = io::buffer();
-    let length = os::arg(i, &mut name);
-    if os::errno() != 0 {
-        os::fail(b"argument");
-        return;
-    }
-    let fd = os::open_read(&name[..length]);
-    if fd < 0 {
-        os::fail(&name[..length]);
-        return;
-    }
+fn one(rt: &(impl Files + Print + Eprint), name: &str) -> io::Result<()> {
     let mut head = [0u8; 4];
-    io::read_full(fd, &mut head);
     // one byte more than a file can tell in its two bytes of length
     let mut file = [0u8; 65539];
-    let n = io::read_full(fd, &mut file);
-    libc::close(fd);
+    let n = match read_case(rt, name, &mut head, &mut file) {
+        Ok(n) => n,
+        // a file that cannot be read is told of, and the next one has its turn
+        Err(e) => return eprintln!(rt; "{name}: {e}"),
+    };
     let log_room = rows::get2(&head, 0) as usize;
     let image_room = rows::get2(&head, 2) as usize;
     let mut log = [PATTERN; LOG];
     let mut image = [PATTERN; STATE];
-    io::write_all(STDOUT_FILENO, &name[..length]);
-    io::write_all(STDOUT_FILENO, b"\n");
-    as_file(&file[..n], &mut log, log_room, &mut image, image_room);
+    println!(rt; "{name}")?;
+    as_file(rt, &file[..n], &mut log, log_room, &mut image, image_room)?;
     if replayer::LARGEST < n {
         let mut log = [PATTERN; LOG];
         let mut image = [PATTERN; STATE];
-        io::write_all(STDOUT_FILENO, &name[..length]);
-        io::write_all(STDOUT_FILENO, b" as input\n");
-        as_input(&file[..n], &mut log, log_room, &mut image, image_room);
+        println!(rt; "{name} as input")?;
+        as_input(rt, &file[..n], &mut log, log_room, &mut image, image_room)?;
     }
+    Ok(())
+}
+
+// The bytes in front of the file, and the file's own, of which it answers how many there are.
+fn read_case(rt: &impl Files, name: &str, head: &mut [u8], file: &mut [u8]) -> io::Result<usize>
+    ensures { ReadsAtMost result file.new }
+{
+    let mut case = fs::open(rt, name)?;
+    read_full(&mut case, head)?;
+    read_full(&mut case, file)
+}
+
+// Reads until the buffer is full or the input ends, and answers how many bytes stand at its front.
+fn read_full<R: Read>(reader: &mut R, buffer: &mut [u8]) -> io::Result<usize>
+    ensures { ReadsAtMost result buffer.new }
+{
+    let mut done = 0;
+    while done < buffer.len() {
+        let n = reader.read(&mut buffer[done..])?;
+        if n == 0 {
+            break;
+        }
+        done += n;
+    }
+    Ok(done)
 }
 
 // The file with buffers of these lengths.
-fn as_file(file: &[u8], log: &mut [u8], log_room: usize, image: &mut [u8], image_room: usize) {
+fn as_file(
+    rt: &impl Print,
+    file: &[u8],
+    log: &mut [u8],
+    log_room: usize,
+    image: &mut [u8],
+    image_room: usize,
+) -> io::Result<()> {
     let l = at_most(log_room, log);
     let m = at_most(image_room, image);
     let a = replayer::replay(file, &mut log[..l], &mut image[..m]);
-    show(a, log, image);
+    show(rt, a, log, image)
 }
 
 // The same bytes as a program's input.
-fn as_input(file: &[u8], log: &mut [u8], log_room: usize, image: &mut [u8], image_room: usize) {
+fn as_input(
+    rt: &impl Print,
+    file: &[u8],
+    log: &mut [u8],
+    log_room: usize,
+    image: &mut [u8],
+    image_room: usize,
+) -> io::Result<()> {
     let l = at_most(log_room, log);
     let m = at_most(image_room, image);
     let a = replayer::replay_input(file, &mut log[..l], &mut image[..m]);
-    show(a, log, image);
+    show(rt, a, log, image)
 }
 
-fn show(a: Answer, log: &[u8], image: &[u8]) {
+fn show(rt: &impl Print, a: Answer, log: &[u8], image: &[u8]) -> io::Result<()> {
     let l = at_most(verdict::LOG, log);
     let m = at_most(limits::IMAGE, image);
     let logged = a.logged;
     let imaged = a.imaged;
     let mut text = [0u8; verdict::MOST];
     let k = verdict::put_lines(&mut text, a, &log[..l], &image[..m]);
-    io::write_all(STDOUT_FILENO, &text[..k]);
-    if kept(log, logged) {
-        if kept(image, imaged) {
-            return;
-        }
+    rt.write_all(&text[..k])?;
+    if !(kept(log, logged) && kept(image, imaged)) {
+        println!(rt; "changed beyond")?;
     }
-    io::write_all(STDOUT_FILENO, b"changed beyond\n");
+    Ok(())
 }
 
 // From a place on the buffer is as it was.
-fn kept(buffer: &[u8], from: usize) -> bool {
-    let mut i = from;
-    while i < buffer.len() {
-        if buffer[i] != PATTERN {
-            return false;
-        }
-        i += 1;
+fn kept(buffer: &[u8], from: usize) -> bool
+    ensures { IsTrue result ↔ All (λ b. b ≡ PATTERN) (drop from buffer.now) }
+{
+    if buffer.len() <= from {
+        return true;
     }
-    true
+    buffer[from..].iter().all(|b| *b == PATTERN)
 }
 
 // n, or the buffer's length where that is less.
 fn at_most(n: usize, buffer: &[u8]) -> usize
     ensures { InFront result buffer.now }
 {
-    if n < buffer.len() {
-        return n;
-    }
-    buffer.len()
+    n.min(buffer.len())
 }

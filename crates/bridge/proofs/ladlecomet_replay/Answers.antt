@@ -1,5 +1,4 @@
 -- `bridge::ladlecomet_replay` meets its contract: the replay, and its numbers told. Assumes nothing.
-use borrow.Author.Rules.{rules}
 use Rattle.bridge.proofs.Calls.{no_room, replayed}
 use Rattle.bridge.proofs.ladlecomet_replay.Goals as goal
 

@@ -1,5 +1,4 @@
 -- `bridge::put_figures` meets its contract: three numbers, one after the other. Assumes nothing.
-use borrow.Author.Rules.{rules}
 use Rattle.bridge.proofs.Calls.{threefold}
 use Rattle.bridge.proofs.put_figures.Goals as goal
 

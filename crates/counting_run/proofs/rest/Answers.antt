@@ -1,5 +1,4 @@
 -- `counting_run::rest` meets its contract: a fault is answered as it is counted, and else the steps are replayed. Assumes nothing.
-use borrow.Author.Rules.{rules}
 use Rattle.schedule.proofs.Running.{counts, faulty_leaves}
 use Rattle.counting_run.specs.Run.{runner}
 use Rattle.counting_run.proofs.Carried.{carries, fresh_good, fresh_leaves}

@@ -1,7 +1,5 @@
 -- `counting_run::run` meets its contract: each accepted step keeps what the rest of the run is to leave, and each way out is what the whole run leaves. Assumes nothing.
-use Prim.Native.Nat.{◌-◌}
-use borrow.Author.Rules.{rules}
-use Rattle.schedule.proofs.Running.{Runs, starts, ends}
+use Rattle.schedule.proofs.Running.{starts, ends}
 use Rattle.counting_run.specs.Run.{runner}
 use Rattle.counting_run.proofs.Carried.{carries}
 use Rattle.counting_run.proofs.Turns.{refused, writeable_to_readable_turn, readable_to_writeable_turn, new_ref_turn, delete_ref_turn}

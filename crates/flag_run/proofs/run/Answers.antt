@@ -1,7 +1,5 @@
 -- `flag_run::run` meets its contract: each accepted step keeps what the rest of the run is to leave, and each way out is what the whole run leaves. Assumes nothing.
-use Prim.Native.Nat.{◌-◌}
-use borrow.Author.Rules.{rules}
-use Rattle.schedule.proofs.Running.{Runs, starts, ends}
+use Rattle.schedule.proofs.Running.{starts, ends}
 use Rattle.flag.proofs.Arms.{begin_outside, begin_busy, begin_fair, move_outside, move_idle, read_outside, read_busy, read_fair}
 use Rattle.flag.proofs.Sounds.{means_sound}
 use Rattle.flag_run.specs.Run.{runner}

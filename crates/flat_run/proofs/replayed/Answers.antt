@@ -1,5 +1,4 @@
 -- `flat_run::replayed` meets its contract: the room is tested, and the steps run are the file's. Assumes nothing.
-use borrow.Author.Rules.{rules}
 use Rattle.schedule.proofs.Running.{product, runnable, log_short, image_short, ran_leaves}
 use Rattle.flat_run.specs.Run.{runner}
 use Rattle.flat_run.proofs.Carried.{carries}

@@ -1,5 +1,4 @@
 -- `flat_run::rest` meets its contract: bad parameters and a fault are answered as they are, and else the steps are replayed. Assumes nothing.
-use borrow.Author.Rules.{rules}
 use Rattle.schedule.proofs.Running.{counts, faulty_leaves}
 use Rattle.flat_run.specs.Run.{runner}
 use Rattle.flat_run.proofs.Carried.{carries, fresh_good, fresh_refused, fresh_leaves}

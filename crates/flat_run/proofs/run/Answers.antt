@@ -1,7 +1,5 @@
 -- `flat_run::run` meets its contract: each accepted step keeps what the rest of the run is to leave, and each way out is what the whole run leaves. Assumes nothing.
-use Prim.Native.Nat.{◌-◌}
-use borrow.Author.Rules.{rules}
-use Rattle.schedule.proofs.Running.{Runs, starts, ends, stops}
+use Rattle.schedule.proofs.Running.{starts, ends, stops}
 use Rattle.flat.proofs.Moved.{client_inside, gather_inside, answer_inside, answer_cast, answer_scaled, gather_fits, answer_fits}
 use Rattle.flat.proofs.Arms.{stopped}
 use Rattle.flat.proofs.Sounds.{means_sound}

@@ -1,5 +1,4 @@
 -- `lock_run::rest` meets its contract: bad parameters and faults are answered as they are, and else the steps are replayed. Assumes nothing.
-use borrow.Author.Rules.{rules}
 use Rattle.schedule.proofs.Running.{counts, faulty_leaves}
 use Rattle.lock_run.specs.Run.{runner}
 use Rattle.lock_run.proofs.Carried.{carries, fresh_good, fresh_refused, fresh_leaves}

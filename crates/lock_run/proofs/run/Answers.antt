@@ -1,7 +1,5 @@
 -- `lock_run::run` meets its contract: each accepted step keeps what the rest of the run is to leave, and each way out is what the whole run leaves. Assumes nothing.
-use Prim.Native.Nat.{◌-◌}
-use borrow.Author.Rules.{rules}
-use Rattle.schedule.proofs.Running.{Runs, starts, ends, stops}
+use Rattle.schedule.proofs.Running.{starts, ends, stops}
 use Rattle.lock.proofs.Moved.{cursor_inside, cell_inside, finish_inside}
 use Rattle.lock.proofs.Arms.{stopped, exc_start_fair, exc_check_count_fair, exc_finish_fair, exc_release_fair}
 use Rattle.lock.proofs.Arms.{shared_start_fair, shared_finish_fair, shared_release_fair}

@@ -1,5 +1,4 @@
 -- `replayer::behind_front` meets its contract: each kind has its own loop. Assumes nothing.
-use borrow.Author.Rules.{rules}
 use Rattle.replayer.proofs.Behind.{as_flat, as_lock, as_counting, as_flag}
 use Rattle.replayer.proofs.behind_front.Goals as goal
 

@@ -1,5 +1,4 @@
 -- `replayer::replay` meets its contract: a fault of the front is answered, and else the rest of the file. Assumes nothing.
-use borrow.Author.Rules.{rules}
 use Rattle.replayer.proofs.Behind.{faulty_answered, open_answered}
 use Rattle.replayer.proofs.replay.Goals as goal
 

@@ -1,5 +1,4 @@
 -- `replayer::replay_input` meets its contract: an input over the largest file is refused unread. Assumes nothing.
-use borrow.Author.Rules.{rules}
 use Rattle.replayer.proofs.Behind.{too_large, as_file}
 use Rattle.replayer.proofs.replay_input.Goals as goal
 

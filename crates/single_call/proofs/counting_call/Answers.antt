@@ -1,5 +1,4 @@
 -- `single_call::counting_call` meets its contract: a state of another length is malformed, a refusal leaves it, and the state after an accepted step is laid over it. Assumes nothing.
-use borrow.Author.Rules.{rules}
 use Rattle.single_call.specs.Call.{counting_raw}
 use Rattle.single_call.proofs.Calling.{wrong_length_lem, counting_refused, counting_accepted}
 use Rattle.single_call.proofs.counting_call.Goals as goal

@@ -1,5 +1,4 @@
 -- `single_call::ladlecomet_single` meets its contract: the single step, and its entry's length laid down. Assumes nothing.
-use borrow.Author.Rules.{rules}
 use Rattle.single_call.proofs.Calling.{no_room, exports}
 use Rattle.single_call.proofs.ladlecomet_single.Goals as goal
 

@@ -1,5 +1,4 @@
 -- `single_call::single_call` meets its contract: one whole step goes to its kind's function, anything else is malformed. Assumes nothing.
-use borrow.Author.Rules.{rules}
 use Rattle.single_call.proofs.Calling.{none_asked, no_kind, flat_kind, lock_kind, counting_kind, flag_kind}
 use Rattle.single_call.proofs.single_call.Goals as goal
 

@@ -1,5 +1,4 @@
 -- `single_call::step_of` meets its contract: what stands behind the first byte, and whether it ends there. Assumes nothing.
-use borrow.Author.Rules.{rules}
 use borrow.Author.Tests.{eq-eqb, ne_eqb}
 use Rattle.single_call.proofs.step_of.Goals as goal
 

@@ -1,6 +1,6 @@
 -- `lines::decimal::digit_count` meets its contract: the loop's invariant says that the digits counted and those of the rest are all, but for one counted twice; the measure is the rest. Assumes nothing.
 use borrow.Author.Rules.{rules}
-use Rattle.lines.proofs.DigitCounts.{Counting, counting_begins, counting_more, counting_ends}
+use Rattle.lines.proofs.DigitCounts.{counting_begins, counting_more, counting_ends}
 use Rattle.lines.proofs.decimal.digit_count.Goals as goal
 
 pub loop-rest-init : goal.loop-rest-init

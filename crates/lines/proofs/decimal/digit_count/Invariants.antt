@@ -1,6 +1,5 @@
 -- `lines::decimal::digit_count` meets its contract: the loop's invariant says that the digits counted and those of the rest are all, but for one counted twice; the measure is the rest. Assumes nothing.
-use borrow.Author.Rules.{rules}
-use Rattle.lines.proofs.DigitCounts.{Counting, counting_begins, counting_more, counting_ends}
+use Rattle.lines.proofs.DigitCounts.{Counting}
 use Rattle.lines.proofs.decimal.digit_count.Given as goal
 
 abbrev pub invariant-loop-rest : goal.invariant-loop-rest

@@ -1,7 +1,6 @@
 -- `lines::decimal::put_digits` meets its contract: the loop's invariant says that the digits left, stored, end as all of them; the measure is how many are left. Assumes nothing.
 use Prim.Native.Nat.{◌-◌}
-use borrow.Author.Rules.{rules}
-use Rattle.lines.proofs.Spelling.{Spelling, spelling_begins, spelling_more, spelling_ends}
+use Rattle.lines.proofs.Spelling.{Spelling}
 use Rattle.lines.proofs.decimal.put_digits.Given as goal
 
 abbrev pub invariant-loop-i : goal.invariant-loop-i

@@ -1,5 +1,4 @@
 -- `lines::hex::digit` meets its contract, by its test. Assumes nothing.
-use borrow.Author.Rules.{rules}
 use Rattle.lines.proofs.Shows.{digit_low, digit_high}
 use Rattle.lines.proofs.hex.digit.Goals as goal
 

@@ -1,11 +1,8 @@
 -- `lines::hex::put_hex` meets its contract: nothing where the digits do not fit; else the loop's invariant says that the bytes left lay down the rest, and the measure is how many are left. Assumes nothing.
-use mathlib.Core.Path.{refl}
 use Prim.Native.Nat.{◌-◌}
-use borrow.Author.Rules.{rules}
 use lib.ListN.{length}
-use Rattle.rows.proofs.Laying.{Laying, laying_begins, laying_more, laying_ends}
+use Rattle.rows.proofs.Laying.{Laying}
 use Rattle.lines.specs.Hex.{hex_byte}
-use Rattle.lines.proofs.Shows.{hex_far, hex_short}
 use Rattle.lines.proofs.hex.put_hex.Given as goal
 
 abbrev pub invariant-loop-i : goal.invariant-loop-i

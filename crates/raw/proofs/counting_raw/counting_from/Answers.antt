@@ -1,5 +1,4 @@
 -- `raw::counting_raw::counting_from` meets its contract: field by field. Assumes nothing.
-use borrow.Author.Rules.{rules}
 use Rattle.raw.proofs.counting_raw.counting_from.Goals as goal
 
 pub returns : goal.returns

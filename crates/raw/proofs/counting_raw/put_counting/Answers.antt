@@ -1,5 +1,4 @@
 -- `raw::counting_raw::put_counting` meets its contract: nothing where the bytes do not fit, else four pieces, one behind the other. Assumes nothing.
-use borrow.Author.Rules.{rules}
 use Rattle.rows.proofs.Stores.{too_short}
 use Rattle.raw.proofs.Writes.{counting_laid}
 use Rattle.raw.proofs.counting_raw.put_counting.Goals as goal

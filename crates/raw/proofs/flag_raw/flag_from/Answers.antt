@@ -1,5 +1,4 @@
 -- `raw::flag_raw::flag_from` meets its contract: field by field. Assumes nothing.
-use borrow.Author.Rules.{rules}
 use Rattle.raw.proofs.flag_raw.flag_from.Goals as goal
 
 pub returns : goal.returns

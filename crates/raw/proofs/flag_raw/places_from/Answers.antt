@@ -1,9 +1,6 @@
 -- `raw::flag_raw::places_from` meets its contract: the loop's invariant says that the entries left fill the rest of the row; the measure is how many are left. Assumes nothing.
-use Prim.Native.Nat.{◌+◌, ◌-◌}
 use borrow.Author.Rules.{rules}
-use Rattle.schedule.specs.Limits as limit
-use Rattle.raw.specs.Raw.{byte_at}
-use Rattle.raw.proofs.Filling.{Filling, filling_begins, filling_more, filling_ends}
+use Rattle.raw.proofs.Filling.{filling_begins, filling_more, filling_ends}
 use Rattle.raw.proofs.flag_raw.places_from.Goals as goal
 
 pub loop-k-init : goal.loop-k-init

@@ -1,5 +1,4 @@
 -- `raw::flags::put_flags` meets its contract: four bytes, one behind the other, or none. Assumes nothing.
-use borrow.Author.Rules.{rules}
 use Rattle.raw.proofs.Writes.{none_short, none_far, flags_laid}
 use Rattle.raw.proofs.flags.put_flags.Goals as goal
 

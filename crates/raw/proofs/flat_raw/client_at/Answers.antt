@@ -1,5 +1,4 @@
 -- `raw::flat_raw::client_at` meets its contract: field by field. Assumes nothing.
-use borrow.Author.Rules.{rules}
 use Rattle.raw.proofs.flat_raw.client_at.Goals as goal
 
 pub returns : goal.returns

@@ -1,9 +1,8 @@
 -- `raw::flat_raw::clients_from` meets its contract: the loop's invariant says that the entries left fill the rest of the row; the measure is how many are left. Assumes nothing.
 use Prim.Native.Nat.{◌*◌, ◌-◌}
-use borrow.Author.Rules.{rules}
 use Rattle.schedule.specs.Limits as limit
 use Rattle.raw.specs.Raw.{client_long, client_at}
-use Rattle.raw.proofs.Filling.{Filling, filling_begins, filling_more, filling_ends}
+use Rattle.raw.proofs.Filling.{Filling}
 use Rattle.raw.proofs.flat_raw.clients_from.Given as goal
 
 abbrev pub invariant-loop-k : goal.invariant-loop-k

@@ -1,5 +1,4 @@
 -- `raw::flat_raw::put_client` meets its contract: four pieces, one behind the other. Assumes nothing.
-use borrow.Author.Rules.{rules}
 use Rattle.raw.proofs.Writes.{client_room, client_laid}
 use Rattle.raw.proofs.flat_raw.put_client.Goals as goal
 

@@ -1,10 +1,8 @@
 -- `raw::flat_raw::put_clients` meets its contract: the loop's invariant says that the entries left lay down the rest; the measure is how many are left. Assumes nothing.
 use mathlib.Core.Path.{refl}
-use Prim.Native.Nat.{◌-◌}
 use borrow.Author.Rules.{rules}
 use Rattle.rows.proofs.Rows.{row_long}
-use Rattle.rows.proofs.Laying.{Laying, laying_begins, laying_more}
-use Rattle.schedule.specs.Limits as limit
+use Rattle.rows.proofs.Laying.{laying_begins, laying_more}
 use Rattle.flat.specs.Flat.{zero_client}
 use Rattle.raw.specs.Raw.{client_bytes}
 use Rattle.raw.proofs.Writes.{laying_all}

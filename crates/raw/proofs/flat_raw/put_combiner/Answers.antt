@@ -1,5 +1,4 @@
 -- `raw::flat_raw::put_combiner` meets its contract: four bytes, one behind the other. Assumes nothing.
-use borrow.Author.Rules.{rules}
 use Rattle.raw.proofs.Writes.{combiner_laid}
 use Rattle.raw.proofs.flat_raw.put_combiner.Goals as goal
 

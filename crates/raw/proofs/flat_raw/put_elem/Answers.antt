@@ -1,5 +1,4 @@
 -- `raw::flat_raw::put_elem` meets its contract: the id, and the flag behind it. Assumes nothing.
-use borrow.Author.Rules.{rules}
 use Rattle.raw.proofs.Writes.{elem_laid}
 use Rattle.raw.proofs.flat_raw.put_elem.Goals as goal
 

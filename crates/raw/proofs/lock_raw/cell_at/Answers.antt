@@ -1,5 +1,4 @@
 -- `raw::lock_raw::cell_at` meets its contract: field by field. Assumes nothing.
-use borrow.Author.Rules.{rules}
 use Rattle.raw.proofs.lock_raw.cell_at.Goals as goal
 
 pub returns : goal.returns

@@ -1,5 +1,4 @@
 -- `raw::lock_raw::head_from` meets its contract: field by field. Assumes nothing.
-use borrow.Author.Rules.{rules}
 use Rattle.raw.proofs.lock_raw.head_from.Goals as goal
 
 pub returns : goal.returns

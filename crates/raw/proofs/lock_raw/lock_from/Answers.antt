@@ -1,5 +1,4 @@
 -- `raw::lock_raw::lock_from` meets its contract: the head and the cells. Assumes nothing.
-use borrow.Author.Rules.{rules}
 use Rattle.raw.proofs.lock_raw.lock_from.Goals as goal
 
 pub returns : goal.returns

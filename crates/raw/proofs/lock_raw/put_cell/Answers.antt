@@ -1,5 +1,4 @@
 -- `raw::lock_raw::put_cell` meets its contract: three bytes, one behind the other. Assumes nothing.
-use borrow.Author.Rules.{rules}
 use Rattle.raw.proofs.Writes.{cell_laid}
 use Rattle.raw.proofs.lock_raw.put_cell.Goals as goal
 

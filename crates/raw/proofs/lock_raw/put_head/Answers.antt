@@ -1,5 +1,4 @@
 -- `raw::lock_raw::put_head` meets its contract: four pieces, one behind the other. Assumes nothing.
-use borrow.Author.Rules.{rules}
 use Rattle.raw.proofs.Writes.{head_room, head_laid}
 use Rattle.raw.proofs.lock_raw.put_head.Goals as goal
 
