@@ -63,6 +63,7 @@ pub fn readable_to_writeable(s: State) -> Moved
     }
 }
 
+#[tactic(auto, using(std::proofs::lemmas::Bool::Decides::nat_tests))]
 pub fn new_ref(s: State) -> Moved
     ensures { result ≡ moved s NewRef }
 {

@@ -39,6 +39,7 @@ pub fn may_finish(h: Head, r: u8) -> u8
 }
 
 // One reader more announces itself, locked or not.
+#[tactic(auto, using(std::proofs::lemmas::Bool::Decides::nat_tests))]
 pub fn shared_start(c: Cell) -> CellMoved
     ensures { result ≡ started_cell c }
 {

@@ -1,19 +1,15 @@
 -- The code's table of step lengths says what the widths say: one computed test over the whole table. Assumes nothing.
-use mathlib.Core.Path.{◌≡◌, refl, ◌∙◌}
-use mathlib.Core.Bool.{Bool, true, false}
+use mathlib.Core.Path.{◌≡◌, refl}
+use mathlib.Core.Bool.{Bool, true}
 use mathlib.Core.List.{List, [], ◌∷◌}
-use Prim.Native.Nat.{ℕ, ◌≤◌, ◌<◌}
-use native.Mathlib.Omega.{arith}
-use borrow.Author.Tests.{eqb-true, leb-true, leb-false}
-use lib.Dec.{eqb, leb}
-use lib.ListN.{length, get_or, get_or-eq_default}
+use Prim.Native.Nat.{ℕ}
+use lib.Dec.{eqb}
 use Rattle.rows.specs.Walk.{every}
-use Rattle.rows.proofs.Walks.{every_at}
-use Rattle.rows.proofs.Tables.{every_row, table_at}
-use Rattle.schedule.specs.Widths.{widths, widths_of, length_of, kinds, tags}
+use Rattle.rows.proofs.Tables.{every_row}
+use Rattle.schedule.specs.Widths.{widths, widths_of, length_of, tags}
 
 -- the table as it stands in src/lengths.rt
-abbrev lengths : List (List ℕ)
+abbrev pub lengths : List (List ℕ)
 lengths =
     (0 ∷ 0 ∷ 0 ∷ 0 ∷ 0 ∷ 0 ∷ 0 ∷ 0 ∷ 0 ∷ [])
     ∷ (0 ∷ 10 ∷ 2 ∷ 1 ∷ 1 ∷ 1 ∷ 9 ∷ 1 ∷ 1 ∷ [])
@@ -22,42 +18,9 @@ lengths =
     ∷ (0 ∷ 2 ∷ 2 ∷ 2 ∷ 0 ∷ 0 ∷ 0 ∷ 0 ∷ 0 ∷ [])
     ∷ []
 
-abbrev right : ℕ → ℕ → ℕ → Bool
+abbrev pub right : ℕ → ℕ → ℕ → Bool
 right k t x = eqb x (length_of k t)
 
-computed : every (every_row right tags) 0 lengths ≡ true
+pub computed : every (every_row right tags) 0 lengths ≡ true
 unfolding widths_of widths
 computed = refl
-
-pub in_table : (k t : ℕ) → k < kinds → t < tags → get_or (get_or lengths k []) t 0 ≡ length_of k t
-in_table k t h l = eqb-true (get_or (get_or lengths k []) t 0) (length_of k t) (table_at right tags lengths 0 computed k t h l)
-
--- what the table does not have is no step
-pub no_kind : (k t : ℕ) → kinds ≤ k → 0 ≡ length_of k t
-unfolding widths_of widths
-no_kind k t h = rw (get_or-eq_default widths [] h)
-
--- and so the row of zeros is that of no kind
-pub no_row : (k t : ℕ) → kinds ≤ k → t < tags → get_or (get_or lengths 0 []) t 0 ≡ length_of k t
-unfolding widths_of widths
-no_row k t h l = in_table 0 t (omega arith) l ∙ no_kind k t h
-
-within : every (λ (k : ℕ) (row : List (List ℕ)). leb (length row) tags) 0 widths ≡ true
-unfolding widths
-within = refl
-
-pub no_tag : (k t : ℕ) → k < kinds → tags ≤ t → 0 ≡ length_of k t
-unfolding widths_of widths
-no_tag k t h l =
-    let short : length (get_or widths k []) ≤ tags = leb-true _ _ (every_at (λ (k : ℕ) (row : List (List ℕ)). leb (length row) tags) [] widths within k h) in
-    let past : length (get_or widths k []) ≤ t = omega arith in
-    rw (get_or-eq_default (get_or widths k []) [] past)
-
--- so a tag past the table has no length, whatever the kind
-module _ (k t : ℕ) (l : tags ≤ t) where
-  by_kind : (b : Bool) → leb kinds k ≡ b → 0 ≡ length_of k t
-  by_kind true e = no_kind k t (leb-true kinds k e)
-  by_kind false e = no_tag k t (leb-false kinds k e) l
-
-  pub no_length : 0 ≡ length_of k t
-  no_length = by_kind (leb kinds k) refl

@@ -2,6 +2,7 @@
 -- what the proofs of the functions cite
 pub mod Opening
 pub mod LengthTable
+pub mod InTable
 pub mod MeasureTests
 pub mod PastEnd
 pub mod Tags

@@ -7,7 +7,7 @@ use borrow.Author.Tests.{le-leb, lt-leb, lt-ltb, le-ltb, eq-eqb, ne_eqb}
 use lib.ListN.{length, get_or}
 use Rattle.schedule.specs.Widths.{length_of, RowOf, tags}
 use Rattle.schedule.specs.Reading.{measured_at}
-use Rattle.schedule.proofs.LengthTable.{no_length}
+use Rattle.schedule.proofs.InTable.{no_length}
 use Rattle.schedule.specs.declared.lengths.Measured.TheVariants.{End, Broken, Whole}
 
 module _ (kind : ℕ) (f : List ℕ) (at : ℕ) where

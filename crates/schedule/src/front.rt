@@ -117,6 +117,7 @@ fn flat(file: &[u8]) -> Opened
 }
 
 // A width, from 1 up to its limit, and the initial record.
+#[tactic(auto, using(std::proofs::lemmas::Bool::Decides::nat_tests))]
 fn lock(file: &[u8]) -> Opened
     ensures { result ≡ lock_front file.now }
 {

@@ -1,5 +1,5 @@
 -- `schedule::lengths::length_of` meets its contract: the table says what the widths say, and what it does not have is no step. Assumes nothing.
-use Rattle.schedule.proofs.LengthTable.{in_table, no_kind, no_tag}
+use Rattle.schedule.proofs.InTable.{in_table, no_kind, no_tag}
 use Rattle.schedule.proofs.lengths.length_of.Goals as goal
 
 pub returns-then-column-lt-TAGS : goal.returns-then-column-lt-TAGS
