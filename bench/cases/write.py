@@ -68,30 +68,25 @@ def row(data):
 
 TABLE_HEAD = """-- The bench cases of the scope, P1 to P12, each a row: the file, the lengths of both buffers, the code and place answered, what is written to each. One
 -- claim over the table proves them: proofs/Tabled.antt. Written by bench/cases/write.py. Assumes nothing.
-use mathlib.Core.Path.{_≡_}
-use mathlib.Core.Bool.{Bool, true, _&&_}
-use mathlib.Core.List.{List, [], _∷_}
-use Prim.Native.Nat.{ℕ}
-use lib.Dec.{eqb}
-use lib.ListN.{length, replicate}
-use Rattle·rows.specs.Bytes.{alike}
-use Rattle·rows.specs.Stores.{over}
-use Rattle·rows.specs.Walk.{every}
-use Rattle·machine.specs.Rest.{Rested}
-use Rattle·replayer·specs.specs.Replay.{replayOf}
+use Rattle.std.specs.Prelude.{◌≡◌, Bool, true, ◌&&◌, List, [], ◌∷◌, ℕ, eqb, length, replicate}
+use Rattle.rows.specs.Bytes.{alike}
+use Rattle.rows.specs.Stores.{over}
+use Rattle.rows.specs.Walk.{every}
+use Rattle.machine.specs.Rest.{Rested}
+use Rattle.replayer.specs.Replay.{replay_of}
 
 pub record Case : Type 0 where
   pub file : List ℕ
-  pub logRoom : ℕ
-  pub imageRoom : ℕ
+  pub log_room : ℕ
+  pub image_room : ℕ
   pub code : ℕ
   pub place : ℕ
   pub log : List ℕ
   pub image : List ℕ
 
 abbrev pub row : List ℕ → ℕ → ℕ → ℕ → ℕ → List ℕ → List ℕ → Case
-row file logRoom imageRoom code place log image =
-    record { file = file; logRoom = logRoom; imageRoom = imageRoom; code = code; place = place; log = log; image = image }
+row file log_room image_room code place log image =
+    record { file = file; log_room = log_room; image_room = image_room; code = code; place = place; log = log; image = image }
 
 -- a buffer before: so many bytes 170
 abbrev pub before : ℕ → List ℕ
@@ -100,9 +95,9 @@ before room = replicate room 170
 -- the answer is the row's: code, place, both lengths, and both whole buffers
 abbrev pub meets : Case → Bool
 meets c =
-    let a : Rested = replayOf (c .file) (before (c .logRoom)) (before (c .imageRoom)) in
-    eqb (a .code) (c .code) && (eqb (a .place) (c .place) && (eqb (a .logged) (length (c .log)) && (eqb (a .imaged) (length (c .image))
-    && (alike (a .log) (over (c .log) (before (c .logRoom))) && alike (a .image) (over (c .image) (before (c .imageRoom)))))))
+    let a : Rested = replay_of c.file (before c.log_room) (before c.image_room) in
+    eqb a.code c.code && (eqb a.place c.place && (eqb a.logged (length c.log) && (eqb a.imaged (length c.image)
+    && (alike a.log (over c.log (before c.log_room)) && alike a.image (over c.image (before c.image_room))))))
 """
 
 
@@ -110,14 +105,13 @@ def table(cases):
     text = TABLE_HEAD
     names = []
     for c in cases:
-        # in the table's language an underscore is a place for an argument
-        name = c["name"].replace("_", "-")
+        name = c["name"]
         names.append(name)
         text += f"\n-- {c['says']}\n"
         text += f"abbrev pub {name} : Case\n"
         text += f"{name} =\n    row ({row(c['file'])}) {c['log']} {c['state']} {c['code']} {c['place']}\n"
-        image = f"{c['same']} .image" if c["same"] else row(c["image"])
-        text += f"    ({row(c['wrote'])})\n    ({image})\n"
+        image = f"{c['same']}.image" if c["same"] else f"({row(c['image'])})"
+        text += f"    ({row(c['wrote'])})\n    {image}\n"
     text += "\nabbrev pub cases : List Case\ncases = " + " ∷ ".join(names) + " ∷ []\n"
     text += "\nabbrev pub Tabled : Type 0\nTabled = every (λ i c. meets c) 0 cases ≡ true\n"
     return text

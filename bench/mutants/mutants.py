@@ -1,7 +1,7 @@
 #!/usr/bin/env python3
 """Small faults put one at a time into the code or the definitions, to see which of them the proofs notice.
 
-A mutant is one change in one file. It is put into a copy of the repository, and `rt dev` says whether the crate is still
+A mutant is one change in one file. It is put into a copy of the repository, and `rt check` says whether the crate is still
 proved. One that survives is either no change of meaning or a promise that says too little: a person has to judge it.
 """
 import argparse
@@ -28,8 +28,9 @@ ABOVE = {
     "schedule": ["counting", "lock", "flag", "flat", "counting_run", "lock_run", "flag_run", "flat_run", "replayer"],
 }
 ABOVE["machine"] = ["schedule"] + ABOVE["schedule"]
+ABOVE["rows"] = ["machine"] + ABOVE["machine"]
 # What an entry of a table of examples starts with.
-EXAMPLES = ("does ", "refuses ", "refusesUnsound ", "runs ", "starts ")
+EXAMPLES = ("does ", "refuses ", "refuses_unsound ", "runs ", "starts ")
 NUMBERS = {"u8", "u16", "u32", "u64", "usize"}
 
 # edits: (start, end, text) spans of the file, not overlapping; names: what the changed text needs imported; was, now: the changed lines
@@ -50,20 +51,32 @@ def blank(text, spans):
 
 def mask(text, side):
     comment, skip = {
-        "src": (r"//[^\n]*", r"^[ ]*(?:(?:ghost |pub )?use|(?:pub )?mod|requires|ensures)\b[^\n]*"),
+        "src": (r"//[^\n]*", r"^[ ]*(?:(?:(?:ghost |pub )?use|(?:pub )?mod)\b|#!?\[)[^\n]*"),
         "specs": (r"--[^\n]*", r"^[ ]*(?:use|(?:pub )?mod|module)\b[^\n]*"),
     }[side]
-    return blank(text, [m.span() for m in re.finditer(f"(?m){comment}|{skip}", text)])
+    text = blank(text, [m.span() for m in re.finditer(f"(?m){comment}|{skip}", text)])
+    if side == "src":
+        # A clause may have a name before its braces, and go on over lines.
+        text = blank(text, list(braced(text, r"^[ ]*(?:requires|ensures)\b[^{\n]*\{")))
+    return text
 
 
-def closing(text, at):
+def closing(text, at, pair="()"):
     """The place of the parenthesis that closes the one at this place, or None."""
     depth = 0
     for i in range(at, len(text)):
-        depth += (text[i] == "(") - (text[i] == ")")
+        depth += (text[i] == pair[0]) - (text[i] == pair[1])
         if depth == 0:
             return i
     return None
+
+
+def braced(text, head):
+    """The spans that begin with this head, which ends in a brace, and end where that brace is closed."""
+    for m in re.finditer(f"(?m){head}", text):
+        end = closing(text, m.end() - 1, "{}")
+        if end is not None:
+            yield m.start(), end + 1
 
 
 def left_end(text, at, stops):
@@ -147,7 +160,7 @@ def constants():
 def src_constants(text, rng):
     known = constants()
     types = [m.span() for m in re.finditer(r"; limits::\w+\]", text)]
-    for m in re.finditer(r"\b(codes|limits|kinds)::([A-Z]+)\b", blank(text, types)):
+    for m in re.finditer(r"\b(codes|limits|kinds)::([A-Z_]+)\b", blank(text, types)):
         names = next((ns for ns in known[m[1]].values() if m[2] in ns), [m[2]])
         others = [n for n in names if n != m[2]]
         if others:
@@ -206,8 +219,8 @@ def of_src(text, rng):
 # ---------- mutants of definitions and statements
 
 def specs_literals(text):
-    # A level, as in `Type 0` and `Unit {0}`, and a part of a pair, as in `v .0`, are no numbers.
-    for m in re.finditer(r"(?<![\w.·{′-])(?<!Type )(\d+)(?![\w′}])", text):
+    # A level, as in `Type 0` and `Unit {0}`, and a part of a pair, as in `v.0`, are no numbers.
+    for m in re.finditer(r"(?<![\w.·{'#-])(?<!Type )(\d+)(?![\w'#}])", text):
         yield "literal", [(m.start(), m.end(), str(int(m[1]) + 1))], []
 
 
@@ -223,6 +236,8 @@ def specs_tests(text, rng):
         end = closing(text, start)
         if end and not text.startswith("(not ", start):
             yield "test", [(start + 1, start + 1, "not ("), (end, end, ")")], ["not"]
+    for m in re.finditer(r"(?:\bneed [\w.]+ |\bcond )([\w']+(?:\.[\w']+)+)(?=[\s)])", text):
+        yield "test", [(m.start(1), m.end(1), f"(not {m[1]})")], ["not"]
     # A pattern stands before the `=`, and only what is behind it is a value.
     for m in re.finditer(r"(?<![\w.])(true|false)\b", text):
         new = {"true": "false", "false": "true"}[m[1]]
@@ -271,8 +286,8 @@ def specs_branches(text):
 
 
 def specs_fields(text):
-    pattern = re.compile(r"(?<![\w-])([\w-]+) = ([^;{}=]+);\s+([\w-]+) = ([^;{}=]+?)(?= *[;}])")
-    for start in [m.start() for m in re.finditer(r"(?<![\w-])[\w-]+ = [^;{}=]+;", text)]:
+    pattern = re.compile(r"(?<![\w'#-])([\w'#-]+) = ([^;{}=]+);\s+([\w'#-]+) = ([^;{}=]+?)(?= *[;}])")
+    for start in [m.start() for m in re.finditer(r"(?<![\w'#-])[\w'#-]+ = [^;{}=]+;", text)]:
         m = pattern.match(text, start)
         if m and m[2].strip() != m[4].strip():
             yield "fields swapped", [(*m.span(2), m[4].strip()), (*m.span(4), m[2].strip())], []
@@ -281,10 +296,10 @@ def specs_fields(text):
 def specs_order(text):
     for m in re.finditer(r" ([+-]) ", text):
         new = {"+": "-", "-": "+"}[m[1]]
-        yield "sum", [(m.start(1), m.end(1), new)], [f"_{new}_"]
+        yield "sum", [(m.start(1), m.end(1), new)], [f"◌{new}◌"]
     for m in re.finditer(r" ([<≤]) ", text):
         new = {"<": "≤", "≤": "<"}[m[1]]
-        yield "order", [(m.start(1), m.end(1), new)], [f"_{new}_"]
+        yield "order", [(m.start(1), m.end(1), new)], [f"◌{new}◌"]
 
 
 def specs_conjuncts(text):
@@ -301,8 +316,8 @@ def specs_conjuncts(text):
 
 
 def specs_statements(text, others):
-    for m in re.finditer(r"(?m)^  pub ([\w-]+) : [^\n]*\n(?:      [^\n]*\n)*", text):
-        word = re.compile(rf"(?<![\w-]){re.escape(m[1])}(?![\w-])")
+    for m in re.finditer(r"(?m)^  pub ([\w'#-]+) : [^\n]*\n(?:      [^\n]*\n)*", text):
+        word = re.compile(rf"(?<![\w'#-]){re.escape(m[1])}(?![\w'#-])")
         if not word.search(others) and len(word.findall(text)) == 1:
             yield "clause dropped", [(m.start(), m.end(), "")], []
 
@@ -381,20 +396,15 @@ def shares(total, crates):
 
 # ---------- trying one
 
-HOMES = {
-    "lib.Dec": ["eqb", "ltb", "leb"],
-    "mathlib.Core.Bool": ["not", "true", "false"],
-    "Prim.Native.Nat": ["_+_", "_-_", "_<_", "_≤_"],
-}
+PRELUDE = "Rattle.std.specs.Prelude"
 
 
 def imported(text, name):
-    """The text with this name imported: a change that only lacks its import is no ill-formed one."""
-    home = next(h for h, names in HOMES.items() if name in names)
-    m = re.search(rf"(?m)^use {re.escape(home)}\.\{{([^}}]*)\}}$", text)
+    """The text with this name of std imported: a change that only lacks its import is no ill-formed one."""
+    m = re.search(rf"(?m)^use {re.escape(PRELUDE)}\.\{{([^}}]*)\}}$", text)
     if not m:
-        at = re.search(r"(?m)^use ", text).start()
-        return f"{text[:at]}use {home}.{{{name}}}\n{text[at:]}"
+        at = re.search(r"(?m)^(?!--)", text).start()
+        return f"{text[:at]}use {PRELUDE}.{{{name}}}\n{text[at:]}"
     if name in [n.strip() for n in m[1].split(",")]:
         return text
     return f"{text[:m.end(1)]}, {name}{text[m.end(1):]}"
@@ -408,55 +418,54 @@ def mutated(text, mutant):
     return text
 
 
-def run(copy, words, limit):
-    """The exit and the output of rt in the copy; None for the exit where it took too long."""
-    p = subprocess.Popen(["rt", *words], cwd=copy, stdout=subprocess.PIPE, stderr=subprocess.STDOUT, start_new_session=True)
+def check(copy, crate, limit):
+    """The exit and the output of `rt check` in the copy's crate; None for the exit where it took too long."""
+    p = subprocess.Popen(
+        ["rt", "check"], cwd=copy / "crates" / crate, stdin=subprocess.DEVNULL, stdout=subprocess.PIPE, stderr=subprocess.STDOUT, start_new_session=True
+    )
     try:
         out, _ = p.communicate(timeout=limit)
         return p.returncode, out.decode(errors="replace")
     except subprocess.TimeoutExpired:
-        # The group is this run's own, so that nothing else is ended with it.
+        # The group is this run's own, so that nothing else is ended with it; the prover that rt started ends with rt.
         os.killpg(p.pid, signal.SIGKILL)
         p.communicate()
         return None, ""
 
 
 def errors(out):
-    """File, line and text of each error that is not the consequence of another."""
-    found = re.findall(r"(?m)^(/[^\s:]+):(\d+):\d+: error(?:\[[^\]]*\])?: (.*)$", out)
-    return [e for e in found if "was not admitted" not in e[2]]
+    """File, line and text of each error that is not the consequence of another. A file is named from its crate's folder."""
+    found = re.findall(r"(?m)^(?:\./)?((?:src|specs|proofs)/[^\s:]+):(\d+):\d+: error(?:\[[^\]]*\])?: (.*)$", out)
+    return [e for e in found if not re.search(r"which was (?:not admitted|rejected), (?:was|were) not checked", e[2])]
 
 
 def by_shape(out):
     """Whether the proofs only lack something by name: the code asks for other facts than they prove, and none of theirs was found wrong. Such a
-    refusal says less, since a proof written anew might go through."""
+    refusal says less, since a proof written anew might go through. A fact that the prover looked for itself, under its new name, and did not find
+    is one that was found wrong."""
     found = errors(out)
-    return bool(found) and all(re.search(r"has no `|not in scope|no such", e[2]) for e in found)
+    shape = all(re.search(r"has no `|not in scope|no such|that can be named", e[2]) for e in found)
+    return bool(found) and shape and not re.search(r"(?m)^note: src/\S+: it is not proved", out)
 
 
-def ill_formed(copy, out):
+def ill_formed(folder, out):
     """Whether the text itself is refused: by the compiler, or in a definition. An error in a proof is a fact that is not proved."""
     for path, line, _ in errors(out):
-        file = pathlib.Path(path)
-        if not file.is_relative_to(copy):
-            continue
-        part = file.relative_to(copy).parts
-        if len(part) < 3 or part[2] not in ("src", "specs"):
-            continue
+        side = path.split("/")[0]
         # The one kind of proof that stands among the definitions.
-        if part[2] == "specs" and file.read_text().splitlines()[int(line) - 1].endswith("= refl"):
+        if side == "proofs" or side == "specs" and (folder / path).read_text().splitlines()[int(line) - 1].endswith("= refl"):
             continue
         return True
     return False
 
 
 def first_error(out):
-    m = re.search(r"(?m)^/[^\s:]*/crates/([^\s:]+):(\d+):\d+: error[^:]*: (.{0,90})", out)
-    if m:
-        return f"{m[1]}:{m[2]} {m[3]}"
+    found = errors(out)
+    if found:
+        return f"{found[0][0]}:{found[0][1]} {found[0][2]:.90}"
     # A function that needs no proof file is refused without an error line.
-    m = re.search(r"(?m)^fn (\S+): (?:not proved|no proof).{0,60}", out)
-    return m[0] if m else ""
+    m = re.search(r"(?m)^note: (src/\S+: it is not proved.{0,90})|^(fn \S+: (?:not proved|no proof).{0,60})|^(rt: .{0,90})(?=\n\Z)", out)
+    return (m[1] or m[2] or m[3]) if m else ""
 
 
 def attempt(mutant, copy, limit):
@@ -466,13 +475,15 @@ def attempt(mutant, copy, limit):
     start = time.time()
     try:
         file.write_text(mutated(text, mutant))
-        code, out = run(copy, ["dev", mutant.crate], limit)
+        code, out = check(copy, mutant.crate, limit)
         spent = time.time() - start
-        if code is None:
+        # 3: the prover met one of its own limits, and can't tell
+        if code in (None, 3):
             return "too long", spent, ""
         if code == 0:
             return "survived", spent, ""
-        if ill_formed(copy, out):
+        # any other exit but 1: nothing was judged
+        if code != 1 or ill_formed(copy / "crates" / mutant.crate, out):
             return "ill-formed", spent, first_error(out)
         return ("by shape" if by_shape(out) else "refused"), spent, first_error(out)
     finally:
@@ -480,27 +491,24 @@ def attempt(mutant, copy, limit):
 
 
 def refused_above(mutant, copy, limit, deadline):
-    """The first of the crates that use a crate to refuse the mutant. What rt has proved meanwhile is put back, since it holds of the mutant."""
+    """The first of the crates that use a crate to refuse the mutant."""
     file = copy / mutant.file
     text = file.read_text()
-    kept = copy / "target.kept"
-    shutil.copytree(copy / "target", kept, symlinks=True)
     try:
         file.write_text(mutated(text, mutant))
         for crate in ABOVE[mutant.crate]:
             left = min(limit, deadline - time.time())
             if left <= 1:
                 return "not asked above: no time left"
-            code, out = run(copy, ["check", crate], left)
-            if code is None:
+            code, out = check(copy, crate, left)
+            if code in (None, 3):
                 return f"{crate} took too long"
             if code != 0:
-                return f"refused by {crate}: {first_error(out)}"
+                library = re.search(r"(?m)^rt: the library (\w+) did not build", out)
+                return f"refused by {library[1] if library else crate}: {first_error(out)}"
         return "survived above as well"
     finally:
         file.write_text(text)
-        shutil.rmtree(copy / "target")
-        kept.rename(copy / "target")
 
 
 # ---------- the report
@@ -585,7 +593,11 @@ class Draw:
 
 
 def copied(to):
-    shutil.copytree(ROOT, to, symlinks=True, ignore=shutil.ignore_patterns(".git", "mutants"))
+    """A copy with the crates alone. What `rt check` kept of them elsewhere on the machine it finds by itself."""
+    shutil.copytree(ROOT / "crates", to / "crates", symlinks=True, ignore=shutil.ignore_patterns("out", "must-fail"))
+    for name in ("crates.txt", "HANDLES"):
+        if (ROOT / name).exists():
+            shutil.copy(ROOT / name, to / name)
     return to
 
 
@@ -632,7 +644,7 @@ def main():
         copies = [copied(pathlib.Path(room).resolve() / f"job{i}") for i in range(args.jobs)]
         for copy in copies:
             for crate in args.crates:
-                code, out = run(copy, ["dev", crate], None)
+                code, out = check(copy, crate, None)
                 if code != 0:
                     raise SystemExit(f"{crate} is not proved as it stands:\n{out}")
         jobs = [threading.Thread(target=work, args=(draw, copy, args, results)) for copy in copies]
