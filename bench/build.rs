@@ -10,22 +10,22 @@ fn main() {
         return;
     }
     let package = PathBuf::from(env::var_os("CARGO_MANIFEST_DIR").expect("set by cargo"));
+    // A relative folder counts from the package, wherever cargo was started.
+    let folder = match env::var_os("LADLECOMET_LIB") {
+        Some(given) => package.join(given),
+        None => package.join("../target/staticlib"),
+    };
+    println!("cargo:rustc-link-search=native={}", folder.display());
     for name in ["bridge", "single_call"] {
-        // A relative folder counts from the package, wherever cargo was started. Without one each library stands where `rt lib` left it.
-        let folder = match env::var_os("LADLECOMET_LIB") {
-            Some(given) => package.join(given),
-            None => package.join(format!("../crates/{name}/out")),
-        };
         let file = folder.join(format!("lib{name}.a"));
         println!("cargo:rerun-if-changed={}", file.display());
         if !file.is_file() {
             eprintln!(
-                "{} is not there: run `rt lib` in crates/{name}",
+                "{} is not there: run bench/libraries.sh first",
                 file.display()
             );
             std::process::exit(1);
         }
-        println!("cargo:rustc-link-search=native={}", folder.display());
         println!("cargo:rustc-link-lib=static={name}");
     }
 }

@@ -12,14 +12,8 @@ copy=$work/package
 features=--no-default-features
 if [ "${1:-}" = native ]; then
     features=--features=native
-    # The copy stands elsewhere, so it is told where the libraries are: in the
-    # folder given, a relative one from the package, or else as `rt lib` left them.
-    if [ -z "${LADLECOMET_LIB:-}" ]; then
-        LADLECOMET_LIB=$work/lib
-        mkdir -p "$LADLECOMET_LIB"
-        cp "$package"/../crates/{bridge/out/libbridge.a,single_call/out/libsingle_call.a} "$LADLECOMET_LIB/"
-    fi
-    LADLECOMET_LIB=$(cd "$package" && cd "$LADLECOMET_LIB" && pwd)
+    # The copy stands elsewhere, so a relative folder must be made absolute.
+    LADLECOMET_LIB=$(cd "$package" && cd "${LADLECOMET_LIB:-../target/staticlib}" && pwd)
     export LADLECOMET_LIB
 fi
 

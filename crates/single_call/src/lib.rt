@@ -1,9 +1,9 @@
-// The single step for programs in other languages: a kind, a raw state of that kind, one step as it stands in a file behind a byte for its kind,
+// The single step for programs that make states up: a kind, a raw state of that kind, one step as it stands in a file behind a byte for its kind,
 // and a log buffer. Takes any input. Accepted: the state's bytes are those of the state after. Refused: no byte of the state changes.
 #![tactic(auto)]
 
 ghost use Rattle.std.specs.Prelude.{◌≡◌};
-ghost use Rattle.single_call.specs.Call.{asked_by, unlogged, StepLeaves, flat_raw, lock_raw, counting_raw, flag_raw, stepped, stepped_by, exported, ExportLeaves};
+ghost use Rattle.single_call.specs.Call.{asked_by, unlogged, StepLeaves, flat_raw, lock_raw, counting_raw, flag_raw, stepped, stepped_by};
 
 use counting::single as counting_single;
 use flag::single as flag_single;
@@ -20,26 +20,6 @@ use schedule::{kinds, read};
 pub struct Called {
     pub logged: usize,
     pub code: u8,
-}
-
-// The single step under its plain name: the code is answered, and `figures` gets the entry's length, four bytes, big-endian. With less room than
-// that nothing is done and the answer is 8.
-#[unsafe(no_mangle)]
-pub extern "C" fn ladlecomet_single(
-    kind: u8,
-    state: &mut [u8],
-    step: &[u8],
-    log: &mut [u8],
-    figures: &mut [u8],
-) -> u8
-    ensures { ExportLeaves (exported kind state.old step.now log.old figures.old) result state.new log.new figures.new }
-{
-    if figures.len() < 4 {
-        return codes::ROOM;
-    }
-    let c = single_call(kind, state, step, log);
-    rows::put_last4(figures, 0, c.logged);
-    c.code
 }
 
 // What the step's bytes tell: one whole step of the kind that the first byte says and nothing behind it, or anything else.
