@@ -7,6 +7,7 @@ into=$PWD/target/staticlib
 mkdir -p "$into"
 
 library() {
+    rm -f "$into/lib$2.a"
     if ! (cd "crates/$1" && rt lib) >"$into/lib$2.log" 2>&1; then
         cat "$into/lib$2.log" >&2
         echo "libraries: rt lib failed in crates/$1" >&2
