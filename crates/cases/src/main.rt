@@ -10,9 +10,10 @@ ghost use Rattle.lines.specs.Lines.{InFront};
 use lines::verdict;
 use schedule::answer::Answer;
 use schedule::limits;
+use std::env::{Env, FillError};
 use std::io::Read;
 use std::rt::Files;
-use std::{env, fs, io};
+use std::{fs, io, str};
 
 // what both buffers hold before, and the longest that a case asks for
 const PATTERN: u8 = 170;
@@ -21,14 +22,27 @@ const LOG: usize = 50000;
 
 const STATE: usize = 4096;
 
+// the longest name that is read
+const NAME: usize = 4096;
+
 fn main(rt: HostRuntime) -> io::Result<()> {
-    for name in env::args(&rt)?.skip(1) {
-        one(&rt, &name)?;
+    // argument 0 is the program's own name
+    for i in 1..usize::MAX {
+        let mut name = [0u8; NAME];
+        match rt.arg(i, &mut name) {
+            Ok(n) => one(&rt, &name[..n])?,
+            Err(FillError::TooLong) => eprintln!(rt; "argument: File name too long")?,
+            Err(FillError::NotPresent) => break,
+        }
     }
     Ok(())
 }
 
-fn one(rt: &(impl Files + Print + Eprint), name: &str) -> io::Result<()> {
+fn one(rt: &(impl Files + Print + Eprint), name: &[u8]) -> io::Result<()> {
+    let name = match str::from_utf8(name) {
+        Ok(name) => name,
+        Err(_) => return eprintln!(rt; "argument: not UTF-8, so that no file can be opened by it"),
+    };
     let mut head = [0u8; 4];
     // one byte more than a file can tell in its two bytes of length
     let mut file = [0u8; 65539];
@@ -134,5 +148,8 @@ fn kept(buffer: &[u8], from: usize) -> bool
 fn at_most(n: usize, buffer: &[u8]) -> usize
     ensures { InFront result buffer.now }
 {
-    n.min(buffer.len())
+    if n < buffer.len() {
+        return n;
+    }
+    buffer.len()
 }

@@ -68,7 +68,7 @@ pub record OfMachine (k : Kind) : Type 0 where
   -- 1. "A refused step leaves the state that stood before it and the log of the steps before it": a single step, of this kind or another
   pub refusal_keeps : (s : StateOf k) (x : Option (StepOf k)) (log : List ℕ)
       → let a = singly k s x log in (a.code ≡ 0 → ⊥) → (a.state ≡ s) × (a.wrote ≡ [])
-  -- "A made_up machine state is tested and, if not sound, refused": 10. Sound is: the source's invariants, the limits, unused entries zero
+  -- "A made-up machine state is tested and, if not sound, refused": 10. Sound is: the source's invariants, the limits, unused entries zero
   pub made_up : (s : StateOf k) (x : StepOf k) (log : List ℕ) → k.stepper.room ≤ length log → k.Whole s → (Sound k s → ⊥)
       → singly k s (some x) log ≡ handed_back code.unsound s
   -- 2. "A step is accepted exactly when its transition in the source is enabled and the counter limit of document 01 isn't reached, and it then does what
