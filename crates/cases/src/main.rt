@@ -11,7 +11,6 @@ use lines::verdict;
 use schedule::answer::Answer;
 use schedule::limits;
 use std::env::{Env, FillError};
-use std::io::Read;
 use std::rt::Files;
 use std::{fs, io, str};
 
@@ -71,23 +70,8 @@ fn read_case(rt: &impl Files, name: &str, head: &mut [u8], file: &mut [u8]) -> i
     ensures { ReadsAtMost result file.new }
 {
     let mut case = fs::open(rt, name)?;
-    read_full(&mut case, head)?;
-    read_full(&mut case, file)
-}
-
-// Reads until the buffer is full or the input ends, and answers how many bytes stand at its front.
-fn read_full<R: Read>(reader: &mut R, buffer: &mut [u8]) -> io::Result<usize>
-    ensures { ReadsAtMost result buffer.new }
-{
-    let mut done = 0;
-    while done < buffer.len() {
-        let n = reader.read(&mut buffer[done..])?;
-        if n == 0 {
-            break;
-        }
-        done += n;
-    }
-    Ok(done)
+    input::read_full(&mut case, head)?;
+    input::read_full(&mut case, file)
 }
 
 // The file with buffers of these lengths.

@@ -1,37 +1,37 @@
 -- Demand 3's share: after a history each client's stage is told by its requests, gatherings, combiner_sends and client_recvs, and the combiner's place by its
 -- rounds. So each step shows what it should, and histories whose steps do are in turn. Assumes nothing.
-use Prim.Native.Nat.{ℕ, suc, ◌+◌, ◌*◌, ◌≤◌, ◌<◌}
+use Prim.Native.Nat.{ℕ, ◌+◌, ◌*◌, ◌≤◌}
 use native.Mathlib.Nat.{mul-zero, mul-suc}
-use mathlib.Core.Path.{◌≡◌, refl, sym, subst, ap, ◌∙◌}
+use mathlib.Core.Path.{◌≡◌, refl, sym, ap, ◌∙◌}
 use mathlib.Core.Bool.{Bool, true, false, not}
 use mathlib.Core.List.{List, [], ◌∷◌, ◌++◌, append-nil}
 use native.Mathlib.Omega.{arith}
-use lib.Dec.{eqb, ltb}
-use lib.ListN.{length, get_or, length-append, length-map, get_or-append, get_or-map}
+use lib.Dec.{eqb}
+use lib.ListN.{length, get_or, length-append, length-map, get_or-map}
 use lib.Seq.{get_or-append_seam}
-use borrow.Author.Tests.{ltb-true, ltb-false, eqb-true, not-true}
+use borrow.Author.Tests.{ltb-true, eqb-true, not-true}
 use Rattle.rows.specs.Walk.{bit}
-use Rattle.rows.proofs.Cases.{on, clash, tick_bit}
+use Rattle.rows.proofs.Cases.{clash, tick_bit}
 use Rattle.rows.proofs.Rows.{get_d_replicate}
 use Rattle.rows.proofs.Row.{row_same, row_up, row_down}
 use Rattle.machine.specs.Machine.{Accepted}
 use Rattle.machine.specs.History.{event, Run, did#, AtEach, Throughout}
-use Rattle.machine.proofs.Runs.{always, throughout, at_each, suffices}
+use Rattle.machine.proofs.Runs.{always, throughout, at_each}
 use Rattle.schedule.specs.Limits as limit
 use Rattle.schedule.specs.declared.steps.FlatStep.{FlatStep}
 use Rattle.schedule.specs.declared.steps.FlatStep.TheVariants.{ClientSend, ClientRecv, CombinerRecv, CombinerSkip, CombinerGoToResponding}
 use Rattle.schedule.specs.declared.steps.FlatStep.TheVariants.{CombinerSend, CombinerSendSkip, CombinerGoToCollecting}
 use Rattle.flat.specs.Flat.{flat, zero_client, fresh_state, client, elem, next, logs, sending, receiving, gathering, answering}
 use Rattle.flat.specs.Demand.{Hist, Message, message, add, requests, answers, turn, sends, place, gatherings, recvs, to_responding, to_collecting, at_place, at_turn}
-use Rattle.flat.specs.Demand.{nth, At, InTurn, Turns, ClientTold, StateCounted}
+use Rattle.flat.specs.Demand.{nth, At, Turns, ClientTold, StateCounted}
 use Rattle.flat.specs.declared.state.Client.{Client}
 use Rattle.flat.specs.declared.state.State.{State}
-use Rattle.flat.specs.declared.entry.Entry.{Entry}
 use Rattle.flat.specs.declared.entry.Entry.TheVariants.{Answer}
 use Rattle.flat.proofs.Stages.{held, collecting, responding}
 use Rattle.flat.proofs.Unused.{in_clients}
 use Rattle.flat.proofs.Sounds.{fresh_stages}
 use Rattle.flat.proofs.Kept.{ids, Stage, at_rest, has_asked, was_gathered, was_answered, Listed, keep, asked_ids}
+use Rattle.flat.proofs.InTurn.{nth_last, steps_suffice}
 
 -- ---------- the k-th of some messages
 
@@ -44,19 +44,6 @@ ids_length l = length-map l (λ m. m.id)
 add_length : (b : Bool) (m : Message) (l : List Message) → length (add b m l) ≡ length l + bit b
 add_length true m l = length-append l (m ∷ [])
 add_length false m l = omega arith
-
--- one message more: those before it stay, and it is the last
-nth_front : (l : List Message) (m : Message) (k : ℕ) → k < length l → nth (l ++ m ∷ []) k ≡ nth l k
-nth_front l m k h = get_or-append l (m ∷ []) (message 0 0) k h
-
-nth_last : (l : List Message) (m : Message) (k : ℕ) → k ≡ length l → nth (l ++ m ∷ []) k ≡ m
-nth_last l m k e = rw e (get_or-append_seam l m [] (message 0 0))
-
-nth_snoc : (P : ℕ → Message → Type 0) (l : List Message) (m : Message) → ((k : ℕ) → k < length l → P k (nth l k)) → P (length l) m
-    → (k : ℕ) → k < length (l ++ m ∷ []) → P k (nth (l ++ m ∷ []) k)
-nth_snoc P l m old new k h = on (ltb k (length l))
-    (λ b. rw (nth_front l m k (ltb-true k (length l) b)) (old k (ltb-true k (length l) b)))
-    (λ b. let e : k ≡ length l = omega (arith, ltb-false k (length l) b, length-append l (m ∷ [])) in rw (nth_last l m k e, e) new)
 
 -- ---------- what a stage says of the client's record
 
@@ -297,73 +284,6 @@ shows h s (CombinerSend rid resp) w p =
     })
 shows h s CombinerSendSkip w p = refl
 shows h s CombinerGoToCollecting w p = refl
-
--- ---------- what the steps show says that messages are in turn: of any history
-
-in_turn : {xs ys zs : List Message} {g n : ℕ} → ((k : ℕ) → k < length zs → nth zs k ≡ nth ys k) → ((k : ℕ) → k < length ys → (nth ys k).id ≡ (nth xs k).id)
-    → (length zs ≡ n) × (n ≤ length ys) × (length ys ≤ g) × (g ≤ length xs) × (length xs ≤ suc n) → InTurn xs ys zs g n
-in_turn a m o =
-    record {
-      own_id = λ k l. ap (λ (m : Message). m.id) (a k l) ∙ m k (omega (arith, o));
-      own_payload = a;
-      sent_for = m;
-      one_each = o.0;
-      after_send = o.1;
-      after_gathering = o.2;
-      after_request = o.3;
-      one_at_a_time = o.4;
-    }
-
-module _ {xs ys zs : List Message} {g n : ℕ} (t : InTurn xs ys zs g n) where
-  asks_in_turn : (m : Message) → length xs ≡ n → InTurn (xs ++ m ∷ []) ys zs g n
-  asks_in_turn m e = in_turn t.own_payload
-      (λ k l. rw (nth_front xs m k (omega (arith, t))) (t.sent_for k l))
-      (omega (arith, t, length-append xs (m ∷ [])))
-
-  gathered_in_turn : length xs ≡ g + 1 → InTurn xs ys zs (suc g) n
-  gathered_in_turn e = in_turn t.own_payload t.sent_for (omega (arith, t))
-
-  sent_in_turn : (rid resp : ℕ) → g ≡ length ys + 1 → rid ≡ (nth xs (length ys)).id → InTurn xs (ys ++ message rid resp ∷ []) zs g n
-  sent_in_turn rid resp e i =
-      let m = message rid resp in
-      in_turn (λ k l. rw (nth_front ys m k (omega (arith, t))) (t.own_payload k l))
-      (nth_snoc (λ k m. m.id ≡ (nth xs k).id) ys m t.sent_for i)
-      (omega (arith, t, length-append ys (m ∷ [])))
-
-  told_in_turn : length xs ≡ n + 1 → length ys ≡ n + 1 → let m = nth ys n in InTurn xs ys (zs ++ message m.id m.load ∷ []) g (suc n)
-  told_in_turn e f =
-      in_turn (nth_snoc (λ k m. m ≡ nth ys k) zs (nth ys n) t.own_payload (rw t.one_each refl))
-      t.sent_for
-      (omega (arith, t, length-append zs (nth ys n ∷ [])))
-
-turns_step : (h : Hist) (x : FlatStep) (l : List Entry) → Turns h → At h x l → Turns (record { did = x; wrote = l } ∷ h)
-turns_step h (ClientSend q rid req) l t p = rw p.0 (λ j. on (eqb j q)
-    (λ b. rw b (asks_in_turn (t j) (message rid req) (subst (λ x. length (requests h x) ≡ recvs h x) (sym (eqb-true j q b)) p.1)))
-    (λ b. rw b (t j)))
-turns_step h (ClientRecv q) l t p = rw p.told (λ j. on (eqb j q)
-    (λ b. rw b
-    (subst
-    (λ x. InTurn (requests h x) (sends h x) (answers h x ++ message (nth (sends h q) (recvs h q)).id (nth (sends h q) (recvs h q)).load ∷ []) (gatherings h x) (suc (recvs h x)))
-    (sym (eqb-true j q b))
-    (told_in_turn (t q) p.asked p.sent)))
-    (λ b. rw b (t j)))
-turns_step h CombinerRecv l t p = rw p.0 (λ j. on (eqb j (place h))
-    (λ b. rw b (gathered_in_turn (t j) (subst (λ x. length (requests h x) ≡ gatherings h x + 1) (sym (eqb-true j (place h) b)) p.1)))
-    (λ b. rw b (t j)))
-turns_step h CombinerSkip l t p = rw p t
-turns_step h CombinerGoToResponding l t p = rw p t
-turns_step h (CombinerSend rid resp) l t p = rw p.quiet (λ j. on (eqb j (turn h))
-    (λ b. rw b
-    (subst
-    (λ x. InTurn (requests h x) (sends h x ++ message rid resp ∷ []) (answers h x) (gatherings h x) (recvs h x))
-    (sym (eqb-true j (turn h) b))
-    (sent_in_turn (t (turn h)) rid resp p.gathered p.meant)))
-    (λ b. rw b (t j)))
-turns_step h CombinerSendSkip l t p = rw p t
-turns_step h CombinerGoToCollecting l t p = rw p t
-
-pub steps_suffice : (h : Hist) → AtEach At h → Turns h
-steps_suffice = suffices At Turns (λ j. in_turn (λ k l. absurd (omega arith)) (λ k l. absurd (omega arith)) (omega arith)) turns_step
 
 -- ---------- after each part of a history from a fresh machine
 

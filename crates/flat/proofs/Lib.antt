@@ -21,6 +21,7 @@ pub mod Upheld
 pub mod Inductive
 pub mod Refines
 -- demand 3, and the tables
+pub mod InTurn
 pub mod Demands
 pub mod Exact
 pub mod Refuted
