@@ -149,18 +149,23 @@ def src_integers(text):
 def constants():
     """module -> type -> names, of the modules that hold nothing but constants."""
     found = {}
-    for module in ["machine/src/codes", "schedule/src/limits", "schedule/src/kinds"]:
+    for module in ["schedule/src/limits"]:
         text = (ROOT / "crates" / f"{module}.rt").read_text()
         module = module.rsplit("/", 1)[1]
         for name, type_ in re.findall(r"pub const (\w+): (\w+)", text):
             found.setdefault(module, {}).setdefault(type_, []).append(name)
+    # the enums whose variants are numbers of the scope: a type, and its variants under one name
+    for file, enum in [("machine/src/refusal", "Refusal"), ("schedule/src/kinds", "Kind")]:
+        text = (ROOT / "crates" / f"{file}.rt").read_text()
+        body = re.search(rf"pub enum {enum} \{{(.*?)\n\}}", text, re.S)[1]
+        found[enum] = {enum: re.findall(r"(\w+) = \d+", body)}
     return found
 
 
 def src_constants(text, rng):
     known = constants()
     types = [m.span() for m in re.finditer(r"; limits::\w+\]", text)]
-    for m in re.finditer(r"\b(codes|limits|kinds)::([A-Z_]+)\b", blank(text, types)):
+    for m in re.finditer(r"\b(limits|Refusal|Kind)::(\w+)\b(?!\()", blank(text, types)):
         names = next((ns for ns in known[m[1]].values() if m[2] in ns), [m[2]])
         others = [n for n in names if n != m[2]]
         if others:

@@ -1,26 +1,18 @@
 -- What a call leaves, at each of its ways out. Assumes nothing.
-use mathlib.Core.Path.{◌≡◌, refl, ◌∙◌}
+use mathlib.Core.Path.{◌≡◌, refl, ap, ◌∙◌}
 use mathlib.Core.List.{List}
 use Prim.Native.Nat.{ℕ, ◌≤◌, ◌<◌}
 use native.Mathlib.Omega.{arith}
 use borrow.Author.Tests.{lt-ltb, le-ltb}
 use lib.ListN.{length}
-use Rattle.rows.specs.Bytes.{big}
 use Rattle.rows.specs.Stores.{Laid}
-use Rattle.rows.proofs.Stores.{laid_then, laid_whole, laid_length, puts_over}
+use Rattle.rows.proofs.Stores.{laid_whole, puts_over}
 use Rattle.machine.specs.Codes as code
+use Rattle.machine.specs.Refusals.{verdict_code}
 use Rattle.schedule.specs.Answers.{Leaves}
 use Rattle.schedule.specs.declared.answer.Answer.{Answer}
 use Rattle.replayer.specs.Replay.{replay_of}
 use Rattle.bridge.specs.Called.{three, called, CallLeaves}
-
--- three numbers laid down one after the other
-pub threefold : (l : List ℕ) (a b c : ℕ) → 12 ≤ length l → (p : ℕ) (l₁ : List ℕ) → Laid l 0 (big 4 a) p l₁ → (q : ℕ) (l₂ : List ℕ) → Laid l₁ p (big 4 b) q l₂
-    → (r : ℕ) (l₃ : List ℕ) → Laid l₂ q (big 4 c) r l₃ → Laid l 0 (three a b c) r l₃
-threefold l a b c h p l₁ d q l₂ e r l₃ g =
-    let one = laid_length l 0 (big 4 a) p l₁ d in
-    let at = (laid_whole l 0 (big 4 a) p l₁ (omega arith) d).0 in
-    laid_then l 0 (big 4 a) _ p l₁ r l₃ (omega arith) d (laid_then l₁ p (big 4 b) (big 4 c) q l₂ r l₃ (omega arith) e g)
 
 module _ (f log image figures : List ℕ) where
   pub no_room : length figures < 12 → (r : ℕ) → r ≡ code.room → CallLeaves (called f log image figures) r log image figures

@@ -2,11 +2,14 @@
 // but that the slices are there.
 #![tactic(auto)]
 
-ghost use Rattle.std.specs.Prelude.{◌≤◌, length};
-ghost use Rattle.rows.specs.Stores.{Laid};
-ghost use Rattle.bridge.specs.Called.{three, called, CallLeaves};
+ghost use Rattle.std.specs.Prelude.{refl};
+ghost use Rattle.std.proofs.Common.{rules};
+ghost use Rattle.rows.specs.Bytes.{big};
+ghost use Rattle.bridge.specs.Called.{called, CallLeaves};
 
-use machine::codes;
+use machine::refusal::Refusal;
+use rows::laid;
+use rows::laid::Layout;
 
 // What a whole file answers besides its code: the place and the lengths of log and image, four bytes each.
 const FIGURES: usize = 12;
@@ -23,18 +26,28 @@ pub extern "C" fn ladlecomet_replay(
     ensures { CallLeaves (called file.now log.old image.old figures.old) result log.new image.new figures.new }
 {
     if figures.len() < FIGURES {
-        return codes::ROOM;
+        return Refusal::Room.code();
     }
     let a = replayer::replay(file, log, image);
-    put_figures(figures, a.place, a.logged, a.imaged);
+    laid::put_all::<FourBytes, usize>(figures, 0, &[a.place, a.logged, a.imaged]);
     a.code
 }
 
-fn put_figures(figures: &mut [u8], place: usize, logged: usize, imaged: usize) -> usize
-    requires { 12 ≤ length figures.old }
-    ensures { Laid figures.old 0 (three place logged imaged) result figures.new }
-{
-    let p = rows::put_last4(figures, 0, place);
-    let q = rows::put_last4(figures, p, logged);
-    rows::put_last4(figures, q, imaged)
+// A number's last four bytes.
+struct FourBytes;
+
+impl Layout<usize> for FourBytes {
+    ghost LONG = { 4 };
+
+    const LONG: usize = 4;
+
+    ghost bytes = { big 4 };
+
+    fn put(out: &mut [u8], at: usize, n: usize) -> usize {
+        rows::put_last4(out, at, n)
+    }
+
+    ghost even = { λ n. refl };
+
+    ghost some = { Prim.search rules };
 }

@@ -5,7 +5,6 @@
 
 ghost use Rattle.std.specs.Prelude.{◌≡◌, ◌↔◌, All, drop, IsTrue};
 ghost use Rattle.std.specs.Io.{ReadsAtMost};
-ghost use Rattle.lines.specs.Lines.{InFront};
 
 use lines::verdict;
 use schedule::answer::Answer;
@@ -37,10 +36,16 @@ fn main(rt: HostRuntime) -> io::Result<()> {
     Ok(())
 }
 
+// How long the log buffer and the state buffer are that a case is replayed with.
+#[derive(Clone, Copy)]
+struct Rooms {
+    log: usize,
+    image: usize,
+}
+
 fn one(rt: &(impl Files + Print + Eprint), name: &[u8]) -> io::Result<()> {
-    let name = match str::from_utf8(name) {
-        Ok(name) => name,
-        Err(_) => return eprintln!(rt; "argument: not UTF-8, so that no file can be opened by it"),
+    let Ok(name) = str::from_utf8(name) else {
+        return eprintln!(rt; "argument: not UTF-8, so that no file can be opened by it");
     };
     let mut head = [0u8; 4];
     // one byte more than a file can tell in its two bytes of length
@@ -50,17 +55,15 @@ fn one(rt: &(impl Files + Print + Eprint), name: &[u8]) -> io::Result<()> {
         // a file that cannot be read is told of, and the next one has its turn
         Err(e) => return eprintln!(rt; "{name}: {e}"),
     };
-    let log_room = rows::get2(&head, 0) as usize;
-    let image_room = rows::get2(&head, 2) as usize;
-    let mut log = [PATTERN; LOG];
-    let mut image = [PATTERN; STATE];
+    let rooms = Rooms {
+        log: usize::from(rows::get::<u16>(&head, 0)),
+        image: usize::from(rows::get::<u16>(&head, 2)),
+    };
     println!(rt; "{name}")?;
-    as_file(rt, &file[..n], &mut log, log_room, &mut image, image_room)?;
+    answer(rt, replayer::replay, &file[..n], rooms)?;
     if replayer::LARGEST < n {
-        let mut log = [PATTERN; LOG];
-        let mut image = [PATTERN; STATE];
         println!(rt; "{name} as input")?;
-        as_input(rt, &file[..n], &mut log, log_room, &mut image, image_room)?;
+        answer(rt, replayer::replay_input, &file[..n], rooms)?;
     }
     Ok(())
 }
@@ -74,45 +77,35 @@ fn read_case(rt: &impl Files, name: &str, head: &mut [u8], file: &mut [u8]) -> i
     input::read_full(&mut case, file)
 }
 
-// The file with buffers of these lengths.
-fn as_file(
+// What a replayer answers to the file, with buffers of these lengths.
+fn answer<F: Fn(&[u8], &mut [u8], &mut [u8]) -> Answer>(
     rt: &impl Print,
+    replay: F,
     file: &[u8],
-    log: &mut [u8],
-    log_room: usize,
-    image: &mut [u8],
-    image_room: usize,
-) -> io::Result<()> {
-    let l = at_most(log_room, log);
-    let m = at_most(image_room, image);
-    let a = replayer::replay(file, &mut log[..l], &mut image[..m]);
-    show(rt, a, log, image)
-}
-
-// The same bytes as a program's input.
-fn as_input(
-    rt: &impl Print,
-    file: &[u8],
-    log: &mut [u8],
-    log_room: usize,
-    image: &mut [u8],
-    image_room: usize,
-) -> io::Result<()> {
-    let l = at_most(log_room, log);
-    let m = at_most(image_room, image);
-    let a = replayer::replay_input(file, &mut log[..l], &mut image[..m]);
-    show(rt, a, log, image)
+    rooms: Rooms,
+) -> io::Result<()>
+    requires { F.IsAlwaysCallable replay }
+{
+    let mut log = [PATTERN; LOG];
+    let mut image = [PATTERN; STATE];
+    let a = replay(
+        file,
+        &mut log[..rooms.log.min(LOG)],
+        &mut image[..rooms.image.min(STATE)],
+    );
+    show(rt, a, &log, &image)
 }
 
 fn show(rt: &impl Print, a: Answer, log: &[u8], image: &[u8]) -> io::Result<()> {
-    let l = at_most(verdict::LOG, log);
-    let m = at_most(limits::IMAGE, image);
-    let logged = a.logged;
-    let imaged = a.imaged;
     let mut text = [0u8; verdict::MOST];
-    let k = verdict::put_lines(&mut text, a, &log[..l], &image[..m]);
+    let k = verdict::put_lines(
+        &mut text,
+        a,
+        &log[..verdict::LOG.min(log.len())],
+        &image[..limits::IMAGE.min(image.len())],
+    );
     rt.write_all(&text[..k])?;
-    if !(kept(log, logged) && kept(image, imaged)) {
+    if !(kept(log, a.logged) && kept(image, a.imaged)) {
         println!(rt; "changed beyond")?;
     }
     Ok(())
@@ -122,18 +115,5 @@ fn show(rt: &impl Print, a: Answer, log: &[u8], image: &[u8]) -> io::Result<()> 
 fn kept(buffer: &[u8], from: usize) -> bool
     ensures { IsTrue result ↔ All (λ b. b ≡ PATTERN) (drop from buffer.now) }
 {
-    if buffer.len() <= from {
-        return true;
-    }
-    buffer[from..].iter().all(|b| *b == PATTERN)
-}
-
-// n, or the buffer's length where that is less.
-fn at_most(n: usize, buffer: &[u8]) -> usize
-    ensures { InFront result buffer.now }
-{
-    if n < buffer.len() {
-        return n;
-    }
-    buffer.len()
+    buffer.len() <= from || buffer[from..].iter().all(|b| *b == PATTERN)
 }

@@ -6,6 +6,7 @@ pub mod Writes
 -- the machine and its source
 pub mod Sounds
 pub mod Kept
+pub mod Carried
 pub mod Lines
 pub mod Posts
 pub mod Inductive

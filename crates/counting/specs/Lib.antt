@@ -6,5 +6,6 @@ pub mod Sound
 pub mod Image
 pub mod Single
 pub mod Refined
+pub mod Running
 pub mod Demand
 pub mod Cases

@@ -2,7 +2,7 @@
 use Rattle.std.specs.Prelude.{List, ℕ}
 use Rattle.std.proofs.Math.Option.{Option, none, some}
 use Rattle.machine.specs.Single as general
-use Rattle.machine.specs.Single.{Stepper}
+use Rattle.machine.specs.Single.{Stepper, InNumbers}
 use Rattle.schedule.specs.Limits as limit
 use Rattle.schedule.specs.declared.steps.CountingStep.{CountingStep}
 use Rattle.schedule.specs.declared.steps.Step.{Step}
@@ -11,7 +11,6 @@ use Rattle.counting.specs.Counting.{counting}
 use Rattle.counting.specs.Sound.{sound}
 use Rattle.counting.specs.Image.{entry_bytes}
 use Rattle.counting.specs.declared.state.State.{State}
-use Rattle.counting.specs.declared.single.Answer.{Answer}
 
 -- a step of this kind, or none
 abbrev pub own : Step → Option CountingStep
@@ -20,15 +19,11 @@ own (Lock x) = none
 own (Counting x) = some x
 own (Flag x) = none
 
--- the place is always 0
-abbrev pub answer : State → ℕ → ℕ → Answer
-answer s logged code = record { state = s; place = 0; logged = logged; code = code }
-
 abbrev pub stepper : Stepper counting
-stepper = record { Any = Step; own = own; sound = sound; room = limit.entry; bytes = entry_bytes; Answer = Answer; answer = answer }
+stepper = record { Any = Step; own = own; sound = sound; room = limit.entry; bytes = entry_bytes }
 
-abbrev pub Singled : State → Step → List ℕ → Answer → List ℕ → Type 0
+abbrev pub Singled : State → Step → List ℕ → InNumbers State → List ℕ → Type 0
 Singled s x l r l' = general.Singled stepper s x l r l'
 
-abbrev pub Applied : State → CountingStep → List ℕ → Answer → List ℕ → Type 0
+abbrev pub Applied : State → CountingStep → List ℕ → InNumbers State → List ℕ → Type 0
 Applied s x l r l' = general.Applied stepper s x l r l'

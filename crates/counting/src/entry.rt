@@ -2,7 +2,7 @@
 ghost use Rattle.rows.specs.Stores.{Laid};
 ghost use Rattle.counting.specs.Image.{entry_bytes, tagged};
 
-#[derive(Clone, Copy)]
+#[derive(Clone, Copy, PartialEq, Eq)]
 pub enum Entry {
     // the value that readable_to_writeable withdraws
     Withdrawn { t: u32 },
@@ -24,15 +24,6 @@ pub fn put_entry(log: &mut [u8], at: usize, e: Entry) -> usize
 fn put_tagged(log: &mut [u8], at: usize, tag: u8, t: u32) -> usize
     ensures { Laid log.old at (tagged tag t) result log.new }
 {
-    if log.len() < 6 {
-        return at;
-    }
-    if log.len() - 6 < at {
-        return at;
-    }
-    log[at] = 5;
-    let p = at + 1;
-    log[p] = tag;
-    let q = p + 1;
-    rows::put4(log, q, t)
+    let [a, b, c, d] = t.to_be_bytes();
+    rows::put_bytes(log, at, &[5, tag, a, b, c, d])
 }

@@ -1,137 +1,76 @@
-// The four transitions on a state, shared by the single step and by the replay loop. Each makes its tests in the order of their codes and
-// answers the state after it, or the code of the first test that fails and the state as it was. A state whose counters the step can't move
-// is not sound, and is answered with 10.
+// The four transitions on a state, which the step applied in place calls. Each makes its tests in the order of their codes and
+// answers the state after it, or why the first test that fails refuses it. A state whose counters the step can't move is not sound.
 ghost use Rattle.std.specs.Prelude.{◌≡◌};
+ghost use Rattle.machine.specs.Move.{as_moved};
 ghost use Rattle.schedule.specs.declared.steps.CountingStep.TheVariants.{WriteableToReadable, ReadableToWriteable, NewRef, DeleteRef};
 ghost use Rattle.counting.specs.Moved.{moved};
 
 use super::state::State;
-use machine::codes;
+use machine::refusal::Refusal;
 use schedule::limits;
 
-#[derive(Clone, Copy)]
-pub struct Moved {
-    pub state: State,
-    pub code: u8,
-}
-
-pub fn writeable_to_readable(s: State, t: u32) -> Moved
-    ensures { result ≡ moved s (WriteableToReadable t) }
+pub fn writeable_to_readable(s: State, t: u32) -> Result<State, Refusal>
+    ensures { as_moved s result ≡ moved s (WriteableToReadable t) }
 {
     if s.present {
-        return Moved {
-            state: s,
-            code: codes::PHASE,
-        };
+        return Err(Refusal::Phase);
     }
-    let after = State {
+    Ok(State {
         t,
         count: 0,
-        refs: s.refs,
         present: true,
-    };
-    Moved {
-        state: after,
-        code: codes::ACCEPTED,
-    }
-}
-
-pub fn readable_to_writeable(s: State) -> Moved
-    ensures { result ≡ moved s ReadableToWriteable }
-{
-    if s.present {
-        if s.count == 0 {
-            let after = State {
-                t: 0,
-                count: 0,
-                refs: s.refs,
-                present: false,
-            };
-            return Moved {
-                state: after,
-                code: codes::ACCEPTED,
-            };
-        }
-        return Moved {
-            state: s,
-            code: codes::COUNT,
-        };
-    }
-    Moved {
-        state: s,
-        code: codes::PHASE,
-    }
+        ..s
+    })
 }
 
 #[tactic(auto, using(std::proofs::lemmas::Bool::Decides::nat_tests))]
-pub fn new_ref(s: State) -> Moved
-    ensures { result ≡ moved s NewRef }
+pub fn readable_to_writeable(s: State) -> Result<State, Refusal>
+    ensures { as_moved s result ≡ moved s ReadableToWriteable }
 {
-    if s.present {
-        if s.count < limits::COUNTER {
-            if s.refs < limits::COUNTER {
-                let after = State {
-                    t: s.t,
-                    count: s.count + 1,
-                    refs: s.refs + 1,
-                    present: s.present,
-                };
-                return Moved {
-                    state: after,
-                    code: codes::ACCEPTED,
-                };
-            }
-            return Moved {
-                state: s,
-                code: codes::UNSOUND,
-            };
-        }
-        return Moved {
-            state: s,
-            code: codes::FULL,
-        };
+    if !s.present {
+        return Err(Refusal::Phase);
     }
-    Moved {
-        state: s,
-        code: codes::PHASE,
+    if s.count != 0 {
+        return Err(Refusal::Count);
     }
+    Ok(State {
+        t: 0,
+        present: false,
+        ..s
+    })
 }
 
-pub fn delete_ref(s: State, t: u32) -> Moved
-    ensures { result ≡ moved s (DeleteRef t) }
+#[tactic(auto, using(std::proofs::lemmas::Bool::Decides::nat_tests))]
+pub fn new_ref(s: State) -> Result<State, Refusal>
+    ensures { as_moved s result ≡ moved s NewRef }
 {
-    if s.present {
-        if 0 < s.refs {
-            if t == s.t {
-                if 0 < s.count {
-                    let after = State {
-                        t: s.t,
-                        count: s.count - 1,
-                        refs: s.refs - 1,
-                        present: s.present,
-                    };
-                    return Moved {
-                        state: after,
-                        code: codes::ACCEPTED,
-                    };
-                }
-                return Moved {
-                    state: s,
-                    code: codes::UNSOUND,
-                };
-            }
-            return Moved {
-                state: s,
-                code: codes::MISSING,
-            };
-        }
-        return Moved {
-            state: s,
-            code: codes::MISSING,
-        };
+    if !s.present {
+        return Err(Refusal::Phase);
     }
-    Moved {
-        state: s,
-        code: codes::PHASE,
+    if limits::COUNTER <= s.count {
+        return Err(Refusal::Full);
     }
+    if limits::COUNTER <= s.refs {
+        return Err(Refusal::Unsound);
+    }
+    Ok(State {
+        count: s.count + 1,
+        refs: s.refs + 1,
+        ..s
+    })
+}
+
+#[tactic(auto, using(std::proofs::lemmas::Bool::Decides::nat_tests))]
+pub fn delete_ref(s: State, t: u32) -> Result<State, Refusal>
+    ensures { as_moved s result ≡ moved s (DeleteRef t) }
+{
+    if !s.present {
+        return Err(Refusal::Phase);
+    }
+    let refs = s.refs.checked_sub(1).ok_or(Refusal::Missing)?;
+    if t != s.t {
+        return Err(Refusal::Missing);
+    }
+    let count = s.count.checked_sub(1).ok_or(Refusal::Unsound)?;
+    Ok(State { count, refs, ..s })
 }

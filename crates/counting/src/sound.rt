@@ -5,20 +5,13 @@ ghost use Rattle.counting.specs.Sound.{sound};
 use super::state::State;
 use schedule::limits;
 
+#[tactic(auto, using(std::proofs::lemmas::Bool::Decides::nat_tests))]
 pub fn is_sound(s: State) -> bool
     ensures { result ≡ sound s }
 {
     if s.present {
-        if s.count <= limits::COUNTER {
-            return s.refs == s.count;
-        }
-        return false;
+        s.count <= limits::COUNTER && s.refs == s.count
+    } else {
+        s == State::default()
     }
-    if s.t != 0 {
-        return false;
-    }
-    if s.count != 0 {
-        return false;
-    }
-    s.refs == 0
 }

@@ -5,7 +5,7 @@ ghost use Rattle.counting.specs.Counting.{fresh_state};
 ghost use Rattle.counting.specs.Image.{image_bytes};
 
 // The stored value and its counter are there or not together, so one flag serves both. All references carry `t`.
-#[derive(Clone, Copy)]
+#[derive(Clone, Copy, PartialEq, Eq, Default)]
 pub struct State {
     pub t: u32,
     pub count: u8,
@@ -16,23 +16,13 @@ pub struct State {
 pub fn fresh() -> State
     ensures { result ≡ fresh_state }
 {
-    State {
-        t: 0,
-        count: 0,
-        refs: 0,
-        present: false,
-    }
+    State::default()
 }
 
 // The image at the front of the buffer, or nothing where it does not fit; the answer is its length.
 pub fn image(s: State, out: &mut [u8]) -> usize
     ensures { Laid out.old 0 (image_bytes s) result out.new }
 {
-    if out.len() < 7 {
-        return 0;
-    }
-    let a = rows::put1(out, 0, s.present as u8);
-    let b = rows::put4(out, a, s.t);
-    let c = rows::put1(out, b, s.count);
-    rows::put1(out, c, s.refs)
+    let [a, b, c, d] = s.t.to_be_bytes();
+    rows::put_bytes(out, 0, &[u8::from(s.present), a, b, c, d, s.count, s.refs])
 }

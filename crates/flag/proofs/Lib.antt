@@ -1,10 +1,8 @@
 -- what the functions' proofs cite
 pub mod Moved
-pub mod Arms
 pub mod Stepping
 pub mod Writes
 pub mod Walking
-pub mod Looking
 -- the machine and its source
 pub mod Loop
 pub mod Counts
@@ -12,6 +10,7 @@ pub mod Offers
 pub mod Offerer
 pub mod Sounds
 pub mod Kept
+pub mod Carried
 pub mod Lines
 pub mod Posts
 pub mod Ends

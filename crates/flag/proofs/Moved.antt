@@ -1,8 +1,8 @@
 -- A step's tests in a sound state: the thread is there, its place is one of the loop's, and what the code tests decides the step's code. Assumes nothing.
-use mathlib.Core.Path.{◌≡◌, refl, sym, ◌∙◌}
+use mathlib.Core.Path.{◌≡◌, refl, sym}
 use mathlib.Core.Bool.{true, not, ◌&&◌}
 use mathlib.Core.List.{List, ◌++◌}
-use Prim.Native.Nat.{ℕ, ◌≤◌, ◌<◌}
+use Prim.Native.Nat.{ℕ, ◌≤◌}
 use native.Mathlib.Omega.{arith}
 use borrow.Author.Tests.{eqb-true, eqb-false, ltb-true, ltb-false, leb-true, le-leb, not-true}
 use lib.Dec.{eqb, ltb, leb}
@@ -11,7 +11,7 @@ use Rattle.rows.specs.Walk.{every, many}
 use Rattle.rows.proofs.Cases.{on, both_true}
 use Rattle.rows.proofs.Walks.{every_at}
 use Rattle.machine.specs.Check.{Check, first}
-use Rattle.machine.proofs.Checks.{all_first, first_past, first_stop}
+use Rattle.machine.proofs.Checks.{first_past}
 use Rattle.machine.proofs.Moves.{move_code_lem}
 use Rattle.schedule.specs.Limits as limit
 use Rattle.flag.specs.Flag.{inside_tests, busy_tests, place}
@@ -58,21 +58,10 @@ module _ (s : State) (safe : sound s ≡ true) where
   pub place_small : (k : ℕ) → place s k ≤ 6
   place_small k = entry_small s.threads k (place s k) (entry_sound k)
 
--- ---------- the code a of the first test, that k is a thread
+-- ---------- the tests behind the first, that k is a thread
 
-module _ (s : State) (k a : ℕ) (e : a ≡ first (inside_tests s.threads k)) where
-  -- it holds: the code may read the thread's place
-  pub thread_inside : sound s ≡ true → a ≡ 0 → k < limit.threads
-  thread_inside safe z =
-      let there : k < s.threads = ltb-true k s.threads (all_first (inside_tests s.threads k) refl (sym e ∙ z)).0 in
-      omega (arith, few_threads s safe)
-
-  -- it fails and decides, or the tests behind it do
-  pub outside_first : (more : List Check) → (a ≡ 0 → ⊥) → a ≡ first (inside_tests s.threads k ++ more)
-  outside_first more n = e ∙ first_stop (inside_tests s.threads k) more (λ z. n (e ∙ z))
-
-  pub inside_first : (more : List Check) → a ≡ 0 → first more ≡ first (inside_tests s.threads k ++ more)
-  inside_first more z = sym (first_past (inside_tests s.threads k) more refl (sym e ∙ z))
+pub inside_first : (s : State) (k : ℕ) → 0 ≡ first (inside_tests s.threads k) → (more : List Check) → first more ≡ first (inside_tests s.threads k ++ more)
+inside_first s k e more = sym (first_past (inside_tests s.threads k) more refl (sym e))
 
 -- no place of a sound state is one that a move has to refuse
 pub move_first : (s : State) (k : ℕ) → sound s ≡ true → may_move (place s k) ≡ first (busy_tests (place s k))

@@ -1,17 +1,25 @@
--- The walk that tests a state's places: one loop that tests every place and counts the threads at 5 and at 6. Assumes nothing.
+-- The walk that tests a state's places: one loop that tests every place and counts the threads at 5 and at 6; and the first thread at 5. Assumes nothing.
 use mathlib.Core.Path.{◌≡◌, refl, sym, ◌∙◌}
-use mathlib.Core.Bool.{Bool, true, false}
-use mathlib.Core.List.{List}
+use mathlib.Core.Bool.{Bool, true, false, cond}
+use mathlib.Core.List.{List, [], ◌∷◌}
 use Prim.Native.Nat.{ℕ, ◌+◌, ◌≤◌, ◌<◌}
 use native.Mathlib.Nat.{add-zero, zero-add}
 use native.Mathlib.Omega.{arith}
 use mir.Syntax.{w64}
 use mir.Val.{Fits, bool_byte}
+use borrow.Author.Tests.{ltb-false}
+use lib.Dec.{eqb, ltb}
 use lib.ListN.{length, get_or, drop}
+use Rattle.std.specs.List.{position_or_len}
+use Rattle.std.specs.Option.{unwrap_or}
+use Rattle.std.specs.declared.option.Option.{Option}
+use Rattle.std.specs.declared.option.Option.TheVariants.{None, Some}
+use Rattle.std.proofs.lemmas.List.Recursion.{is_position_or_len}
 use Rattle.rows.specs.Walk.{every, many}
 use Rattle.rows.proofs.Cases.{on}
 use Rattle.rows.proofs.Walks.{every_more, every_stop, every_end, many_more, many_skip, many_end}
 use Rattle.schedule.specs.Limits as limit
+use Rattle.flag.specs.Flag.{offerer}
 use Rattle.flag.specs.Sound.{place_sound, at_second, at_store, handshake, places_sound}
 use Rattle.flag.specs.declared.state.State.{State}
 
@@ -74,9 +82,11 @@ module _ (s : State) where
       pub walking_stops : b ≡ false → false ≡ places_sound s
       walking_stops e = rw (← every_stop (place_sound s.threads) s.places 0 i _ w.rest inside (sym told ∙ e))
 
-      pub walking_more : b ≡ true → Walking (i + 1) (fives + bool_byte (at_second (get_or s.places i 0))) (sixes + bool_byte (at_store (get_or s.places i 0)))
-      walking_more e =
-          record {
+      pub walking_more : b ≡ true → (x y : ℕ) → x ≡ bool_byte (at_second (get_or s.places i 0)) → y ≡ bool_byte (at_store (get_or s.places i 0))
+          → Walking (i + 1) (fives + x) (sixes + y)
+      walking_more e x y five six =
+          rw (five, six)
+          (record {
             below = omega arith;
             long = w.long;
             few_fives = omega (arith, w.few_fives, bit_small (at_second (get_or s.places i 0)));
@@ -84,4 +94,20 @@ module _ (s : State) where
             rest = every_more (place_sound s.threads) s.places 0 i _ w.rest inside (sym told ∙ e);
             at_five = many_bit at_second s.places fives i _ w.at_five inside;
             at_six = many_bit at_store s.places sixes i _ w.at_six inside;
-          }
+          })
+
+-- ---------- the first thread that offers its flip, or how many there are
+
+few_offers : (ps : List ℕ) → offerer ps ≤ length ps
+few_offers [] = omega arith
+few_offers (p ∷ ps) = on (eqb p 5) (λ b. rw b (omega arith)) (λ b. rw b (omega (arith, few_offers ps)))
+
+pub first_offer : (ps : List ℕ) (r : Option ℕ)
+    → r ≡ cond (ltb (position_or_len at_second ps) (length ps)) (Some (position_or_len at_second ps)) None
+    → unwrap_or r (length ps) ≡ offerer ps
+first_offer ps r e =
+    let o : offerer ps ≡ position_or_len at_second ps =
+    is_position_or_len offerer at_second refl (λ x xs. on (eqb x 5) (λ b. rw b refl) (λ b. rw b (omega arith))) ps in
+    on (ltb (offerer ps) (length ps))
+    (λ b. rw (e, ← o, b))
+    (λ b. rw (e, ← o, b) (omega (arith, few_offers ps, ltb-false (offerer ps) (length ps) b)))

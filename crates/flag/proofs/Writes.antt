@@ -1,14 +1,12 @@
--- An entry, the flips of a move and an image, laid down piece by piece. Assumes nothing.
+-- No flips laid down, an image laid down piece by piece, and how little either takes. Assumes nothing.
 use mathlib.Core.Path.{◌≡◌, refl, sym}
-use mathlib.Core.Bool.{Bool}
 use mathlib.Core.List.{List, [], ◌∷◌}
-use Prim.Native.Nat.{ℕ, ◌+◌, ◌-◌, ◌≤◌, ◌<◌}
+use Prim.Native.Nat.{ℕ, ◌+◌, ◌≤◌, ◌<◌}
 use native.Mathlib.Omega.{arith}
 use borrow.Author.Tests.{leb-true, leb-false}
-use mir.Syntax.{w64}
-use mir.Val.{Fits, bool_byte}
+use mir.Val.{bool_byte}
 use lib.Dec.{leb}
-use lib.ListN.{length, set, take, length-take}
+use lib.ListN.{length, take, length-take}
 use Rattle.rows.specs.Stores.{Laid}
 use Rattle.rows.specs.Walk.{pieces}
 use Rattle.rows.proofs.Cases.{on}
@@ -21,20 +19,8 @@ use Rattle.schedule.specs.declared.steps.FlagStep.TheVariants.{Begin, Move, Read
 use Rattle.flag.specs.Flag.{went_by, flipped, offerer, logs}
 use Rattle.flag.specs.Image.{entry_bytes, image_bytes, in_use}
 use Rattle.flag.specs.declared.state.State.{State}
-use Rattle.flag.specs.declared.entry.Entry.TheVariants.{Flip, Saw}
 use Rattle.flag.specs.declared.moves.Flips.{Flips}
 use Rattle.flag.specs.declared.moves.Flips.TheVariants.{Nobody, Mover, Both}
-
--- ---------- entries
-
-module _ (l : List ℕ) (at k : ℕ) where
-  pub flip_laid : 3 ≤ length l → at ≤ length l - 3 → Laid l at (entry_bytes (Flip k)) (at + 1 + 1 + 1) (set (set (set l at 2) (at + 1) 1) (at + 1 + 1) k)
-  flip_laid h p = whole_laid l at (entry_bytes (Flip k)) (at + 1 + 1 + 1) _ (omega arith) (omega arith) refl
-
-  module _ (v : Bool) where
-    pub saw_laid : 4 ≤ length l → at ≤ length l - 4
-        → Laid l at (entry_bytes (Saw k v)) (at + 1 + 1 + 1 + 1) (set (set (set (set l at 3) (at + 1) 2) (at + 1 + 1) k) (at + 1 + 1 + 1) (bool_byte v))
-    saw_laid h p = whole_laid l at (entry_bytes (Saw k v)) (at + 1 + 1 + 1 + 1) _ (omega arith) (omega arith) refl
 
 -- ---------- the flips of a move
 
@@ -45,24 +31,8 @@ nothing_laid l at =
     (λ b. let h = leb-true _ _ b in whole_laid l at [] at l h (omega arith) refl)
     (λ b. let h = leb-false _ _ b in none_laid l at [] h)
 
-module _ (flips : Flips) (places l : List ℕ) (at k : ℕ) where
-  pub flips_nobody : flips ≡ Nobody → Laid l at (pieces entry_bytes (flipped flips (offerer places) k)) at l
-  flips_nobody e = rw e (nothing_laid l at)
-
-  pub flips_mover : (r : ℕ) (l' : List ℕ) → flips ≡ Mover → Laid l at (entry_bytes (Flip k)) r l'
-      → Laid l at (pieces entry_bytes (flipped flips (offerer places) k)) r l'
-  flips_mover r l' e d = rw e d
-
-  module _ (e : flips ≡ Both) where
-    pub flips_short : length l < 6 → Laid l at (pieces entry_bytes (flipped flips (offerer places) k)) at l
-    flips_short h = rw e (none_laid l at _ (omega arith))
-
-    pub flips_past : 6 ≤ length l → length l - 6 < at → Laid l at (pieces entry_bytes (flipped flips (offerer places) k)) at l
-    flips_past h p = rw e (none_laid l at _ (omega arith))
-
-    pub flips_both : 6 ≤ length l → at ≤ length l - 6 → (o p : ℕ) (m : List ℕ) (r : ℕ) (l' : List ℕ) → o ≡ offerer places
-        → Laid l at (entry_bytes (Flip o)) p m → Laid m p (entry_bytes (Flip k)) r l' → Laid l at (pieces entry_bytes (flipped flips (offerer places) k)) r l'
-    flips_both h q o p m r l' w a b = rw (e, ← w) (laid_then l at (entry_bytes (Flip o)) (entry_bytes (Flip k)) p m r l' (omega arith) a b)
+pub flips_nobody : (flips : Flips) (o k : ℕ) (l : List ℕ) (at : ℕ) → flips ≡ Nobody → Laid l at (pieces entry_bytes (flipped flips o k)) at l
+flips_nobody flips o k l at e = rw e (nothing_laid l at)
 
 few_flips : (f : Flips) (o k : ℕ) → length (pieces entry_bytes (flipped f o k)) ≤ limit.entry
 few_flips Nobody o k = omega arith
@@ -84,9 +54,6 @@ module _ (s : State) (n : ℕ) (e : n ≡ in_use s.threads) where
   small : n ≤ limit.threads
   small = rw e (used_small s.threads)
 
-  pub used_fits : Fits w64 (2 + n)
-  used_fits = omega (arith, small)
-
   module _ (long : length s.places ≡ limit.threads) where
     pub used_inside : n ≤ length s.places
     used_inside = omega (arith, small)
@@ -98,11 +65,10 @@ module _ (s : State) (n : ℕ) (e : n ≡ in_use s.threads) where
       pub image_short : length l < 2 + n → Laid l 0 (image_bytes s) 0 l
       image_short h = rw (← e) (none_laid l 0 (bool_byte s.value ∷ s.pending ∷ take n s.places) (omega (arith, used_long)))
 
-      pub image_laid : 2 + n ≤ length l → (a b c : ℕ) (k m o : List ℕ) → Laid l 0 (bool_byte s.value ∷ []) a k → Laid k a (s.pending ∷ []) b m
-          → Laid m b (take n s.places) c o → Laid l 0 (image_bytes s) c o
-      image_laid h a b c k m o p q r =
-          let front = laid_then l 0 (bool_byte s.value ∷ []) (s.pending ∷ []) a k b m (omega arith) p q in
-          rw (← e) (laid_then l 0 (bool_byte s.value ∷ s.pending ∷ []) (take n s.places) b m c o (omega (arith, used_long)) front r)
+      pub image_laid : 2 + n ≤ length l → (v : ℕ) → v ≡ bool_byte s.value → (a c : ℕ) (k o : List ℕ) → Laid l 0 (v ∷ s.pending ∷ []) a k
+          → Laid k a (take n s.places) c o → Laid l 0 (image_bytes s) c o
+      image_laid h v f a c k o p q =
+          rw (← e) (laid_then l 0 (bool_byte s.value ∷ s.pending ∷ []) (take n s.places) a k c o (omega (arith, used_long)) (rw f at p) q)
 
 -- an image is small: it tells of no more threads than there is room for
 pub image_small : (s : State) → length (image_bytes s) ≤ limit.image

@@ -7,7 +7,7 @@ use Rattle.schedule.specs.Limits as limit
 use Rattle.schedule.specs.declared.steps.FlagStep.{FlagStep}
 use Rattle.schedule.specs.declared.steps.FlagStep.TheVariants.{Begin, Move, Read}
 use Rattle.flag.specs.declared.state.State.{State}
-use Rattle.flag.specs.declared.state.Made.{Made}
+use Rattle.machine.specs.Made.{Fresh}
 use Rattle.flag.specs.declared.moves.Flips.{Flips}
 use Rattle.flag.specs.declared.moves.Flips.TheVariants.{Nobody, Mover, Both}
 use Rattle.flag.specs.declared.moves.Went.{Went}
@@ -19,7 +19,8 @@ use Rattle.flag.specs.declared.entry.Entry.TheVariants.{Flip, Saw}
 abbrev pub fresh_state : ℕ → Bool → State
 fresh_state threads value = record { threads = threads; pending = 0; value = value; places = replicate limit.threads 0 }
 
-abbrev pub fresh_of : ℕ → Bool → Made
+-- a machine that is made, and the code
+abbrev pub fresh_of : ℕ → Bool → Fresh State
 fresh_of threads value =
     cond (eqb threads 0) (record { state = fresh_state 0 false; code = code.parameter })
     (cond (ltb limit.threads threads) (record { state = fresh_state 0 false; code = code.parameter })

@@ -1,9 +1,10 @@
 -- what the functions' proofs cite
 pub mod Moved
-pub mod Arms
-pub mod Stepping
+pub mod Applied
 pub mod Writes
 pub mod Packing
+pub mod Paired
+pub mod Defaults
 -- the machine and its source
 pub mod Stages
 pub mod Tests
@@ -26,4 +27,5 @@ pub mod Demands
 pub mod Exact
 pub mod Refuted
 pub mod Tabled
+pub mod Carried
 pub mod Settled

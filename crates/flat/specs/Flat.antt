@@ -10,7 +10,7 @@ use Rattle.schedule.specs.declared.steps.FlatStep.TheVariants.{CombinerSend, Com
 use Rattle.flat.specs.declared.state.Client.{Client}
 use Rattle.flat.specs.declared.state.Elem.{Elem}
 use Rattle.flat.specs.declared.state.State.{State}
-use Rattle.flat.specs.declared.state.Made.{Made}
+use Rattle.machine.specs.Made.{Fresh}
 use Rattle.flat.specs.declared.entry.Entry.{Entry}
 use Rattle.flat.specs.declared.entry.Entry.TheVariants.{Answer}
 
@@ -26,7 +26,8 @@ abbrev pub fresh_state : ℕ → State
 fresh_state count =
     record { clients = replicate limit.clients zero_client; elems = replicate limit.clients zero_elem; count = count; len = 0; idx = 0; responding = false }
 
-abbrev pub fresh_of : ℕ → Made
+-- a machine that is made, and the code
+abbrev pub fresh_of : ℕ → Fresh State
 fresh_of count =
     cond (ltb limit.clients count) (record { state = fresh_state 0; code = code.parameter })
     (record { state = fresh_state count; code = code.accepted })

@@ -15,15 +15,9 @@ use Rattle.flat.specs.declared.entry.Entry.TheVariants.{Answer}
 abbrev pub entry_bytes : Entry → List ℕ
 entry_bytes (Answer j rid resp) = 9 ∷ j ∷ (big 4 rid ++ big 4 resp)
 
--- how many bytes of the image a message, a client, the mask with the combiner, and an element take
-abbrev pub message_long : ℕ
-message_long = 9
-
+-- how many bytes of the image a client and an element take
 abbrev pub client_long : ℕ
 client_long = 23
-
-abbrev pub combiner_long : ℕ
-combiner_long = 5
 
 abbrev pub elem_long : ℕ
 elem_long = 5

@@ -8,3 +8,4 @@ pub mod Single
 pub mod Refined
 pub mod Demand
 pub mod Cases
+pub mod Running

@@ -9,19 +9,11 @@ pub enum Entry {
 }
 
 // The entry's bytes at a place of the log, all or nothing; the answer is the place after them.
-pub fn put_entry(log: &mut [u8], at: usize, j: u8, rid: u32, resp: u32) -> usize
-    ensures { Laid log.old at (entry_bytes (Entry.Answer j rid resp)) result log.new }
+pub fn put_entry(log: &mut [u8], at: usize, entry: Entry) -> usize
+    ensures { Laid log.old at (entry_bytes entry) result log.new }
 {
-    if log.len() < 10 {
-        return at;
-    }
-    if log.len() - 10 < at {
-        return at;
-    }
-    log[at] = 9;
-    let p = at + 1;
-    log[p] = j;
-    let q = p + 1;
-    let o = rows::put4(log, q, rid);
-    rows::put4(log, o, resp)
+    let Entry::Answer { j, rid, resp } = entry;
+    let [a, b, c, d] = rid.to_be_bytes();
+    let [e, f, g, h] = resp.to_be_bytes();
+    rows::put_bytes(log, at, &[9, j, a, b, c, d, e, f, g, h])
 }

@@ -1,3 +1,2 @@
 pub mod Carried
-pub mod Turns
 pub mod Settled

@@ -1,10 +1,11 @@
--- How many decimal digits a number has: one more for each division by ten; at most 20 below 2 ^ 64; and the loop that counts them. Assumes nothing.
-use mathlib.Core.Path.{◌≡◌, refl, ap, ◌∙◌}
-use Prim.Native.Nat.{ℕ, zero, suc, ◌+◌, ◌/◌, ◌^◌, ◌≤◌, ◌<◌}
+-- How many decimal digits a number has: one more for each division by ten; at most 20 below 2 ^ 64; and what its logarithm says. Assumes nothing.
+use mathlib.Core.Path.{◌≡◌, refl, sym, ap, ◌∙◌}
+use Prim.Native.Nat.{ℕ, zero, suc, ◌+◌, ◌*◌, ◌/◌, ◌^◌, ◌≤◌, ◌<◌}
 use native.Mathlib.Nat.{pow-suc}
 use native.Mathlib.Omega.{arith}
 use borrow.Author.Tests.{lt-ltb, le-ltb, ltb-true, ltb-false}
 use lib.Dec.{ltb}
+use Rattle.std.specs.Prelude.{max}
 use Rattle.rows.proofs.Cases.{on}
 use Rattle.lines.specs.Decimal.{digit_count_up_to, digit_count}
 
@@ -44,19 +45,22 @@ count_few (suc k) n h = on (ltb 9 n)
     (λ e. let more = count_more n (ltb-true 9 n e) in let p = pow-suc 10 (suc k) in omega (arith, count_few k (n / 10) (omega arith)))
     (λ e. let one = count_one n (ltb-false 9 n e) in omega arith)
 
--- ---------- the loop that counts them
+-- ---------- the number by its logarithm
 
--- k digits are counted; the one in front still stands for all the digits of the rest
-pub record Counting (n k rest : ℕ) : Type 0 where
-  pub left : k + digit_count rest ≡ 1 + digit_count n
-  pub few : digit_count n ≤ 20
+pow-pos : (k : ℕ) → 0 < 10 ^ k
+pow-pos zero = omega arith
+pow-pos (suc k) = omega (arith, pow-suc 10 k, pow-pos k)
 
-pub counting_begins : (n : ℕ) → n < 2 ^ 64 → Counting n 1 n
-counting_begins n h = record { left = refl; few = count_few 19 n (omega arith) }
+-- it has one digit more than the power of ten below it has zeros
+count_by_power : (k n : ℕ) → 10 ^ k ≤ n → n < 10 * 10 ^ k → digit_count n ≡ k + 1
+count_by_power zero n h p = count_one n (omega arith)
+count_by_power (suc k) n h p =
+    let q = pow-suc 10 k in
+    let some = pow-pos k in
+    count_more n (omega arith) ∙ omega (arith, count_by_power k (n / 10) (omega arith) (omega arith))
 
-module _ (n k rest : ℕ) (g : Counting n k rest) where
-  pub counting_more : 9 < rest → Counting n (k + 1) (rest / 10)
-  counting_more h = record { left = omega (arith, count_more rest h, g.left); few = g.few }
-
-  pub counting_ends : rest ≤ 9 → (k ≡ digit_count n) × (k ≤ 20)
-  counting_ends h = let one = count_one rest h in (omega (arith, g.left), omega (arith, g.left, g.few))
+-- and 0 has one digit, as 1 has
+pub count_by_log : (n k : ℕ) → 10 ^ k ≤ max n 1 → max n 1 < 10 * 10 ^ k → k + 1 ≡ digit_count n
+count_by_log zero zero h p = sym (count_one 0 (omega arith))
+count_by_log zero (suc k) h p = let q = pow-suc 10 k in let some = pow-pos k in absurd (omega arith)
+count_by_log (suc n) k h p = sym (count_by_power k (suc n) (omega arith) (omega arith))

@@ -32,27 +32,29 @@ module _ (code place : ℕ) (byte : code < 256) (word : place < 2 ^ 64) where
       simp length-append (omega arith)
 
   -- its four pieces
-  pub verdict_laid : (out : List ℕ) → longest_verdict ≤ length out → (r₁ r₂ r₃ r₄ : ℕ) (l₁ l₂ l₃ l₄ : List ℕ) → Laid out 0 verdict_word r₁ l₁ → Laid l₁ r₁ (decimal code) r₂ l₂
+  pub verdict_laid : (out : List ℕ) → longest_verdict ≤ length out → (n : ℕ) → n ≡ code → (r₁ r₂ r₃ r₄ : ℕ) (l₁ l₂ l₃ l₄ : List ℕ)
+      → Laid out 0 verdict_word r₁ l₁ → Laid l₁ r₁ (decimal n) r₂ l₂
       → Laid l₂ r₂ at_word r₃ l₃ → Laid l₃ r₃ (decimal place) r₄ l₄ → Laid out 0 (verdict_line code place) r₄ l₄
-  verdict_laid out h r₁ r₂ r₃ r₄ l₁ l₂ l₃ l₄ k₁ k₂ k₃ k₄ =
+  verdict_laid out h n e r₁ r₂ r₃ r₄ l₁ l₂ l₃ l₄ k₁ k₂ k₃ k₄ =
       let all = verdict_line code place in
       let g = ahead_begins out 0 all (omega (arith, verdict_few)) in
       let g₁ = ahead_more out 0 all out 0 verdict_word r₁ l₁ (decimal code ++ (at_word ++ decimal place)) g k₁ in
-      let g₂ = ahead_more out 0 all l₁ r₁ (decimal code) r₂ l₂ (at_word ++ decimal place) g₁ k₂ in
+      let g₂ = ahead_more out 0 all l₁ r₁ (decimal code) r₂ l₂ (at_word ++ decimal place) g₁ (rw e at k₂) in
       let g₃ = ahead_more out 0 all l₂ r₂ at_word r₃ l₃ (decimal place) g₂ k₃ in
       ahead_ends out 0 all l₃ r₃ (decimal place) r₄ l₄ g₃ k₄
 
 -- ---------- a row's line
 
-module _ (name : List ℕ) (n : ℕ) (bytes : List ℕ) where
-  row_few : length (row_line name n bytes) ≤ length name + (2 * length bytes + 1)
-  row_few =
-      let first = length-take n bytes in
-      omega (arith, length-append name (shown (take n bytes)), shown_long (take n bytes))
+module _ (name bytes : List ℕ) where
+  line_few : length (name ++ shown bytes) ≤ length name + (2 * length bytes + 1)
+  line_few = omega (arith, length-append name (shown bytes), shown_long bytes)
 
   pub row_laid : (out : List ℕ) (at : ℕ) → at + length name + 2 * length bytes + 1 ≤ length out → (r : ℕ) (l : List ℕ) (q : ℕ) (m : List ℕ) → Laid out at name r l
-      → Laid l r (shown (take n bytes)) q m → Laid out at (row_line name n bytes) q m
-  row_laid out at h r l q m d e = laid_then out at name (shown (take n bytes)) r l q m (omega (arith, row_few)) d e
+      → Laid l r (shown bytes) q m → Laid out at (name ++ shown bytes) q m
+  row_laid out at h r l q m d e = laid_then out at name (shown bytes) r l q m (omega (arith, line_few)) d e
+
+row_few : (name : List ℕ) (n : ℕ) (bytes : List ℕ) → length (row_line name n bytes) ≤ length name + (2 * length bytes + 1)
+row_few name n bytes = omega (arith, length-take n bytes, line_few name (take n bytes))
 
 module _ (out : List ℕ) (a : Answer) (log image : List ℕ) where
   -- ---------- nothing is written
@@ -94,24 +96,30 @@ module _ (out : List ℕ) (a : Answer) (log image : List ℕ) where
           )
 
       -- each line has its place behind the one before
-      module _ (r₁ : ℕ) (l₁ : List ℕ) (k₁ : Laid out 0 (verdict_line a.code a.place) r₁ l₁) where
+      module _ (r₁ : ℕ) (l₁ : List ℕ) (k₁ : Laid out 0 (verdict_line a.code a.place) r₁ l₁) (logged : List ℕ) (e : logged ≡ take a.logged log) where
         verdict_end : (r₁ ≤ longest_verdict) × (length l₁ ≡ length out)
         verdict_end =
             let w = laid_whole out 0 (verdict_line a.code a.place) r₁ l₁ (omega arith) k₁ in
             (omega arith, laid_length out 0 (verdict_line a.code a.place) r₁ l₁ k₁)
 
-        pub log_room_lem : r₁ + length log_word + 2 * length log + 1 ≤ length l₁
-        log_room_lem = omega (arith, verdict_end)
+        logged_few : length logged ≤ length log
+        logged_few = rw e (omega (arith, length-take a.logged log))
 
-        module _ (r₂ : ℕ) (l₂ : List ℕ) (k₂ : Laid l₁ r₁ (row_line log_word a.logged log) r₂ l₂) where
-          pub state_room : r₂ + length state_word + 2 * length image + 1 ≤ length l₂
+        pub log_room_lem : r₁ + length log_word + 2 * length logged + 1 ≤ length l₁
+        log_room_lem = omega (arith, verdict_end, logged_few)
+
+        module _ (r₂ : ℕ) (l₂ : List ℕ) (k₂ : Laid l₁ r₁ (log_word ++ shown logged) r₂ l₂) (imaged : List ℕ) (f : imaged ≡ take a.imaged image) where
+          imaged_few : length imaged ≤ length image
+          imaged_few = rw f (omega (arith, length-take a.imaged image))
+
+          pub state_room : r₂ + length state_word + 2 * length imaged + 1 ≤ length l₂
           state_room =
-              let row = row_few log_word a.logged log in
+              let row = line_few log_word logged in
               let v = verdict_end in
-              let w = laid_whole l₁ r₁ (row_line log_word a.logged log) r₂ l₂ (omega arith) k₂ in
-              omega (arith, laid_length l₁ r₁ (row_line log_word a.logged log) r₂ l₂ k₂)
+              let w = laid_whole l₁ r₁ (log_word ++ shown logged) r₂ l₂ (omega (arith, logged_few)) k₂ in
+              omega (arith, laid_length l₁ r₁ (log_word ++ shown logged) r₂ l₂ k₂, logged_few, imaged_few)
 
-          module _ (r₃ : ℕ) (l₃ : List ℕ) (k₃ : Laid l₂ r₂ (row_line state_word a.imaged image) r₃ l₃) (r₄ : ℕ) (l₄ : List ℕ) (k₄ : Laid l₃ r₃ line_end r₄ l₄) where
+          module _ (r₃ : ℕ) (l₃ : List ℕ) (k₃ : Laid l₂ r₂ (state_word ++ shown imaged) r₃ l₃) (r₄ : ℕ) (l₄ : List ℕ) (k₄ : Laid l₃ r₃ line_end r₄ l₄) where
             lines_laid : Laid out 0 (lines_of a log image) r₄ l₄
             lines_laid =
                 let all = lines_of a log image in
@@ -119,8 +127,8 @@ module _ (out : List ℕ) (a : Answer) (log image : List ℕ) where
                 let state-line = row_line state_word a.imaged image in
                 let g = ahead_begins out 0 all (omega (arith, lines_room)) in
                 let g₁ = ahead_more out 0 all out 0 (verdict_line a.code a.place) r₁ l₁ (log-line ++ (state-line ++ line_end)) g k₁ in
-                let g₂ = ahead_more out 0 all l₁ r₁ log-line r₂ l₂ (state-line ++ line_end) g₁ k₂ in
-                let g₃ = ahead_more out 0 all l₂ r₂ state-line r₃ l₃ line_end g₂ k₃ in
+                let g₂ = ahead_more out 0 all l₁ r₁ log-line r₂ l₂ (state-line ++ line_end) g₁ (rw e at k₂) in
+                let g₃ = ahead_more out 0 all l₂ r₂ state-line r₃ l₃ line_end g₂ (rw f at k₃) in
                 ahead_ends out 0 all l₃ r₃ line_end r₄ l₄ g₃ k₄
 
             pub lines_written : Written out a log image r₄ l₄

@@ -8,27 +8,18 @@ pub fn put_decimal(out: &mut [u8], at: usize, n: usize) -> usize
     ensures { Laid out.old at (decimal n) result out.new }
 {
     let k = digit_count(n);
-    if out.len() < k {
-        return at;
-    }
-    if out.len() - k < at {
+    if out.len() < k || out.len() - k < at {
         return at;
     }
     put_digits(out, at, n, k)
 }
 
-// How many digits n has.
+// How many digits n has, 0 one too.
 fn digit_count(n: usize) -> usize
     ensures value { result ≡ digit_count n }
     ensures upper_bound { result ≤ 20 }
 {
-    let mut k: usize = 1;
-    let mut rest = n;
-    while 9 < rest {
-        rest /= 10;
-        k += 1;
-    }
-    k
+    n.max(1).ilog10() as usize + 1
 }
 
 // The last k digits of n, from the last to the first.
@@ -36,11 +27,9 @@ fn put_digits(out: &mut [u8], at: usize, n: usize, k: usize) -> usize
     requires { at + k ≤ length out.old }
     ensures { Laid out.old at (digits k n) result out.new }
 {
-    let mut i: usize = 0;
     let mut rest = n;
-    while i < k {
-        i += 1;
-        out[at + (k - i)] = (48 + rest % 10) as u8;
+    for i in 0..k {
+        out[at + (k - (i + 1))] = b'0' + (rest % 10) as u8;
         rest /= 10;
     }
     at + k

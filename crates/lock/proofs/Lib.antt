@@ -2,6 +2,7 @@
 pub mod Moved
 pub mod Arms
 pub mod Stepping
+pub mod Zeros
 pub mod Writes
 -- the machine and its source
 pub mod Phases
@@ -11,6 +12,7 @@ pub mod Upheld
 pub mod Changed
 pub mod Sounds
 pub mod Kept
+pub mod Carried
 pub mod Lines
 pub mod Posts
 pub mod Inductive
@@ -21,3 +23,4 @@ pub mod Exact
 pub mod Refuted
 pub mod Tabled
 pub mod Settled
+pub mod Paired

@@ -1,38 +1,19 @@
--- In a sound state the places that the steps look at are in the row, and the numbers of each accepted step's record stay in range. Assumes nothing.
-use mathlib.Core.Path.{◌≡◌, refl, sym, ◌∙◌}
+-- In a sound state the numbers of each accepted step's record stay in range. Assumes nothing.
+use mathlib.Core.Path.{◌≡◌, refl}
 use mathlib.Core.Bool.{true}
-use Prim.Native.Nat.{ℕ, ◌<◌}
+use Prim.Native.Nat.{ℕ}
 use native.Mathlib.Omega.{arith}
 use borrow.Author.Tests.{ltb-true, lt-ltb}
 use lib.Dec.{ltb}
 use Rattle.machine.specs.Check.{first}
 use Rattle.machine.proofs.Checks.{all_first}
 use Rattle.schedule.specs.Limits as limit
-use Rattle.lock.specs.Lock.{cell, exc_check_count_tests, inside_tests, shared_finish_tests, room_tests, pending_tests, guard_tests}
+use Rattle.lock.specs.Lock.{cell, room_tests, pending_tests, guard_tests}
 use Rattle.lock.specs.Sound.{sound}
 use Rattle.lock.specs.declared.state.State.{State}
-use Rattle.lock.proofs.Plain.{test_head, test_cells}
+use Rattle.lock.proofs.Plain.{test_cells}
 
 module _ (s : State) (safe : sound s ≡ true) where
-  -- ---------- the places
-
-  inside : (r : ℕ) → ltb r s.head.width ≡ true → r < limit.width
-  inside r b = omega (arith, ltb-true r s.head.width b, (test_head s safe).1)
-
-  pub cursor_inside : (a : ℕ) → a ≡ first (exc_check_count_tests s.head) → a ≡ 0 → s.head.cursor < limit.width
-  cursor_inside a e z = inside s.head.cursor (all_first (exc_check_count_tests s.head) refl (sym e ∙ z)).1.0
-
-  pub cell_inside : (r a : ℕ) → a ≡ first (inside_tests s.head r) → a ≡ 0 → r < limit.width
-  cell_inside r a e z = inside r (all_first (inside_tests s.head r) refl (sym e ∙ z)).0
-
-  pub finish_inside : (r a : ℕ) → a ≡ first (shared_finish_tests s.head r) → a ≡ 0 → r < limit.width
-  finish_inside r a e z = inside r (all_first (shared_finish_tests s.head r) refl (sym e ∙ z)).0
-
-  -- ---------- the numbers
-
-  pub exc_check_count_fits : (a : ℕ) → a ≡ first (exc_check_count_tests s.head) → a ≡ 0 → ltb s.head.cursor limit.counter ≡ true
-  exc_check_count_fits a e z = lt-ltb s.head.cursor limit.counter (omega (arith, cursor_inside a e z))
-
   module _ (r : ℕ) where
     pub shared_start_fits : first (room_tests (cell s r)) ≡ 0 → ltb (cell s r).pending limit.counter ≡ true
     shared_start_fits z =

@@ -1,26 +1,29 @@
--- A refusal of shared_finish on a sound state, by the head's tests or by the cell's. What else the steps answer is the general laws' alone. Assumes nothing.
-use mathlib.Core.Path.{◌≡◌, sym}
-use mathlib.Core.Bool.{true}
-use mathlib.Core.List.{List}
-use Prim.Native.Nat.{ℕ, ◌≤◌}
-use lib.ListN.{length}
-use Rattle.machine.specs.Check.{first}
-use Rattle.machine.proofs.Answering.{refused, fair_refused}
-use Rattle.schedule.specs.Limits as limit
-use Rattle.schedule.specs.declared.steps.LockStep.TheVariants.{SharedFinish}
-use Rattle.lock.specs.Lock.{cell, with_cell, shared_finish_tests}
-use Rattle.lock.specs.Moved.{finished_cell}
-use Rattle.lock.specs.Sound.{sound}
-use Rattle.lock.specs.Single.{answer, stepper, Applied}
+-- A step made in place, refused or accepted. Assumes nothing.
+use mathlib.Core.Path.{◌≡◌, refl, sym}
+use mathlib.Core.List.{List, []}
+use Prim.Native.Nat.{ℕ}
+use Rattle.std.specs.Prelude.{Result, Ok, Err}
+use Rattle.std.specs.Result.{IsErrAnd}
+use Rattle.machine.specs.Machine.{code_of}
+use Rattle.machine.specs.Refusals.{number}
+use Rattle.machine.specs.Apply.{Accepts}
+use Rattle.machine.specs.declared.refusal.Refusal.{Refusal}
+use Rattle.machine.proofs.Fair.{Fair}
+use Rattle.machine.proofs.Applied.{accepts_quiet}
+use Rattle.schedule.specs.declared.steps.LockStep.{LockStep}
+use Rattle.lock.specs.Lock.{lock, logs}
+use Rattle.lock.specs.Image.{entry_bytes}
+use Rattle.lock.specs.Running.{Steps}
 use Rattle.lock.specs.declared.state.State.{State}
-use Rattle.lock.specs.declared.reader.CellMoved.{CellMoved}
-use Rattle.lock.specs.declared.single.Answer.{Answer}
-use Rattle.lock.proofs.Arms.{stopped, shared_finish_fair}
 
-module _ (s : State) (l : List ℕ) (q : Answer) (room : limit.entry ≤ length l) (safe : sound s ≡ true) (r a : ℕ) (c : a ≡ first (shared_finish_tests s.head r)) where
-  pub shared_finish_stopped : (a ≡ 0 → ⊥) → q ≡ answer s 0 a → Applied s (SharedFinish r) l q l
-  shared_finish_stopped n p = refused stepper s (SharedFinish r) l q room safe a (sym (stopped s (SharedFinish r) a c n)) n p
+-- refused: the reason that a test gave, handed on by a `?`
+pub kept : (s : State) (x : LockStep) (r : Result (Unit {0}) Refusal) (why : Refusal) → IsErrAnd r (λ y. y ≡ why) → number why ≡ code_of lock s x → Steps s x r s
+kept s x (Ok u) why e own = absurd e
+kept s x (Err y) why e own = (rw e own, refl)
 
-  pub shared_finish_refused : a ≡ 0 → (m : CellMoved) → m ≡ finished_cell (cell s r) → (m.code ≡ 0 → ⊥) → q ≡ answer s 0 m.code → Applied s (SharedFinish r) l q l
-  shared_finish_refused y m e n p =
-      fair_refused stepper s (SharedFinish r) l q room safe m.code (with_cell s r m.cell) (shared_finish_fair s r m e safe a c y) n p
+-- accepted, and with a log: a step x of the form v, which logs nothing
+pub quiet : (s : State) (x v : LockStep) → x ≡ v → (l : List ℕ) (at : ℕ) (u : Unit {0}) (s' : State) → Steps s v (Ok u) s' → logs s v ≡ []
+    → Accepts lock entry_bytes s x l at at s' l
+quiet s x v e l at u s' d n =
+    let stands : Fair lock s v 0 s' = record { own = sym d.0; went = λ z. d.1; stayed = λ k. absurd (k refl) } in
+    accepts_quiet lock entry_bytes s x v e l s' stands n at

@@ -9,7 +9,7 @@ use Rattle.schedule.specs.declared.steps.LockStep.TheVariants.{ExcStart, ExcChec
 use Rattle.lock.specs.declared.state.Cell.{Cell}
 use Rattle.lock.specs.declared.state.Head.{Head}
 use Rattle.lock.specs.declared.state.State.{State}
-use Rattle.lock.specs.declared.state.Made.{Made}
+use Rattle.machine.specs.Made.{Fresh}
 use Rattle.lock.specs.declared.entry.Entry.{Entry}
 use Rattle.lock.specs.declared.entry.Entry.TheVariants.{Withdrawn, Granted}
 
@@ -28,7 +28,8 @@ empty_lock width t stored =
 abbrev pub fresh_state : ℕ → ℕ → State
 fresh_state width t = empty_lock width t true
 
-abbrev pub fresh_of : ℕ → ℕ → Made
+-- a machine that is made, and the code
+abbrev pub fresh_of : ℕ → ℕ → Fresh State
 fresh_of width t =
     cond (eqb width 0) (record { state = empty_lock 0 0 false; code = code.parameter })
     (cond (ltb limit.width width) (record { state = empty_lock 0 0 false; code = code.parameter })

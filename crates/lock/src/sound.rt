@@ -1,7 +1,7 @@
 // The test of a made-up state: one walk over the cells.
 ghost use Rattle.std.specs.Prelude.{◌≡◌};
 ghost use Rattle.rows.specs.Walk.{every};
-ghost use Rattle.lock.specs.Sound.{sound, head_sound, cell_sound, must_be_clear};
+ghost use Rattle.lock.specs.Sound.{sound, head_sound, writer_sound, cell_sound, must_be_clear};
 
 use super::state::{Cell, Head, State};
 use schedule::limits;
@@ -9,103 +9,52 @@ use schedule::limits;
 pub fn is_sound(s: State) -> bool
     ensures { result ≡ sound s }
 {
-    let h = s.head;
-    if head_sound(h) {
-        return cells_sound(s);
-    }
-    false
+    head_sound(s.head) && cells_sound(s)
 }
 
 fn cells_sound(s: State) -> bool
     ensures { result ≡ every (cell_sound s.head) 0 s.cells }
 {
-    let h = s.head;
-    let mut i: usize = 0;
-    while i < limits::WIDTH {
-        let c = s.cells[i];
-        if cell_sound(h, i, c) {
-            i += 1;
-            continue;
-        }
-        return false;
-    }
-    true
+    s.cells
+        .iter()
+        .enumerate()
+        .all(|(i, c)| cell_sound(s.head, i, *c))
 }
 
-// The writer holds the guard, checks the cells, or is away.
+// The width is in its limits, and the writer where it can be.
 fn head_sound(h: Head) -> bool
     ensures { result ≡ head_sound h }
 {
-    if h.width == 0 {
-        return false;
-    }
-    if limits::WIDTH < h.width as usize {
-        return false;
-    }
+    h.width != 0 && usize::from(h.width) <= limits::WIDTH && writer_sound(h)
+}
+
+// The writer holds the guard, checks the cells, or is away.
+fn writer_sound(h: Head) -> bool
+    ensures { result ≡ writer_sound h }
+{
     if h.guard {
-        if h.pending {
-            return false;
-        }
-        if h.stored {
-            return false;
-        }
-        if h.t != 0 {
-            return false;
-        }
-        if h.cursor != 0 {
-            return false;
-        }
-        return h.locked;
+        !h.pending && !h.stored && h.t == 0 && h.cursor == 0 && h.locked
+    } else if h.pending {
+        h.stored && h.cursor <= h.width && h.locked
+    } else {
+        h.stored && !h.locked && h.cursor == 0
     }
-    if h.stored {
-        if h.pending {
-            if h.width < h.cursor {
-                return false;
-            }
-            return h.locked;
-        }
-        if h.locked {
-            return false;
-        }
-        return h.cursor == 0;
-    }
-    false
 }
 
 // No reader guard stands where the writer has checked, nor anywhere while it holds the guard.
 fn must_be_clear(h: Head, i: usize) -> bool
     ensures { result ≡ must_be_clear h i }
 {
-    if h.guard {
-        return true;
-    }
-    if h.pending {
-        return i < h.cursor as usize;
-    }
-    false
+    h.guard || h.pending && i < usize::from(h.cursor)
 }
 
 // A cell in use counts its pending readers and its guards; one that is not in use is zero.
 fn cell_sound(h: Head, i: usize, c: Cell) -> bool
     ensures { result ≡ cell_sound h i c }
 {
-    if i < h.width as usize {
-        if limits::COUNTER < c.count {
-            return false;
-        }
-        if c.count as u16 != c.pending as u16 + c.guards as u16 {
-            return false;
-        }
-        if must_be_clear(h, i) {
-            return c.guards == 0;
-        }
-        return true;
+    if i < usize::from(h.width) {
+        c.pending.checked_add(c.guards) == Some(c.count) && (c.guards == 0 || !must_be_clear(h, i))
+    } else {
+        c == Cell::default()
     }
-    if c.count != 0 {
-        return false;
-    }
-    if c.pending != 0 {
-        return false;
-    }
-    c.guards == 0
 }

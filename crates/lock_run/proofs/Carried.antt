@@ -1,53 +1,43 @@
--- What the shift lock has of its own for the laws of a run, and that a run may start from a machine that its parameters make. Assumes nothing.
-use mathlib.Core.Path.{◌≡◌}
+-- A run may start from a lock that its parameters make. Assumes nothing.
+use mathlib.Core.Path.{◌≡◌, refl}
+use mathlib.Core.Bool.{true}
 use mathlib.Core.List.{List}
 use Prim.Native.Nat.{ℕ}
 use native.Mathlib.Omega.{arith}
 use borrow.Author.Tests.{eqb-false, ltb-false}
 use lib.Dec.{eqb, ltb}
+use Rattle.std.specs.Prelude.{Ok}
 use Rattle.rows.proofs.Cases.{on}
-use Rattle.machine.proofs.Steps.{code_accepted}
 use Rattle.schedule.specs.Limits as limit
-use Rattle.schedule.specs.Answers.{refused_as, Leaves}
-use Rattle.schedule.specs.Running.{rest_run}
+use Rattle.schedule.specs.Answers.{Leaves}
+use Rattle.schedule.specs.Running.{rest_tested}
 use Rattle.schedule.specs.declared.answer.Answer.{Answer}
-use Rattle.schedule.proofs.Languages.{lock_lawful}
-use Rattle.schedule.proofs.Running.{Carries, bad_leaves, made_leaves}
-use Rattle.lock.specs.Lock.{lock, fresh_of}
-use Rattle.lock.specs.Refined.{Sound}
-use Rattle.lock.specs.declared.state.Made.{Made}
-use Rattle.lock.proofs.Writes.{logs_short, image_small}
-use Rattle.lock.proofs.Sounds.{fresh_means}
-use Rattle.lock.proofs.Kept.{accepted_sound}
+use Rattle.schedule.proofs.Running.{made_leaves}
+use Rattle.lock.specs.Lock.{fresh_of}
+use Rattle.lock.specs.Sound.{sound}
+use Rattle.lock.specs.declared.state.State.{State}
+use Rattle.machine.specs.Made.{Fresh, made_by}
+use Rattle.machine.specs.declared.made.Made.{Made}
+use Rattle.lock.proofs.Sounds.{fresh_sound}
 use Rattle.lock_run.specs.Run.{runner, rest_of_file}
 
-abbrev pub carries : Carries runner
-carries =
-    record {
-      lawful = lock_lawful;
-      short = logs_short;
-      small = image_small;
-      kept = λ q x z k. accepted_sound q x k (code_accepted lock q x z);
-    }
-
-sound_fresh : (width t : ℕ) → (fresh_of width t).code ≡ 0 → Sound (fresh_of width t).state
-sound_fresh width t z =
+made_sound : (width t : ℕ) → (fresh_of width t).code ≡ 0 → sound (fresh_of width t).state ≡ true
+made_sound width t z =
     on (eqb width 0)
     (λ b. absurd (omega (arith, rw b at z)))
     (λ b. on (ltb limit.width width)
     (λ d. absurd (omega (arith, rw (b, d) at z)))
     (λ d. rw (b, d)
-    (fresh_means width t (omega (arith, eqb-false width 0 b)) (ltb-false limit.width width d))))
+    (fresh_sound width t (omega (arith, eqb-false width 0 b)) (ltb-false limit.width width d))))
 
-module _ (width t : ℕ) (made : Made) (e : made ≡ fresh_of width t) where
-  pub fresh_good : made.code ≡ 0 → Sound made.state
-  fresh_good z = rw e (sound_fresh width t (rw e at z))
+-- what a run from the lock m that is made leaves is what the rest of the file comes to: it is sound
+module _ (width t : ℕ) (f : List ℕ) (from : ℕ) (log image : List ℕ) (r : Answer) (log' image' : List ℕ) where
+  left_from : (m : Fresh State) → m ≡ fresh_of width t → m.code ≡ 0 → Leaves (rest_tested runner sound m.state f from log image) r log' image'
+      → Leaves (rest_of_file f from width t log image) r log' image'
+  left_from m e z d =
+      let safe : sound m.state ≡ true = rw e (made_sound width t (rw e at z)) in
+      rw (← e) (made_leaves runner m.code m.state f from log image z r log' image' (rw safe at d))
 
-  -- bad parameters are answered with their code; what a run from the lock that is made leaves is what the rest of the file comes to
-  module _ (f : List ℕ) (from : ℕ) (log image : List ℕ) where
-    pub fresh_refused : (made.code ≡ 0 → ⊥) → (r : Answer) → r ≡ refused_as made.code 0 → Leaves (rest_of_file f from width t log image) r log image
-    fresh_refused n r q = rw (← e) (bad_leaves runner made.code made.state f from log image n r q)
-
-    pub fresh_leaves : made.code ≡ 0 → (r : Answer) (log' image' : List ℕ) → Leaves (rest_run runner made.state f from log image) r log' image'
-        → Leaves (rest_of_file f from width t log image) r log' image'
-    fresh_leaves z r log' image' d = rw (← e) (made_leaves runner made.code made.state f from log image z r log' image' d)
+  pub fresh_leaves : (made : Made State) → made_by made ≡ fresh_of width t → (u : Unit {0}) → made.verdict ≡ Ok u
+      → Leaves (rest_tested runner sound made.state f from log image) r log' image' → Leaves (rest_of_file f from width t log image) r log' image'
+  fresh_leaves made e u v d = left_from (made_by made) e (rw v refl) d

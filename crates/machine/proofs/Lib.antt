@@ -8,11 +8,14 @@ pub mod Replays
 pub mod Multisets
 -- what the functions' proofs cite: a moved record, the single step, the loop and the buffers
 pub mod Moves
+pub mod Refusing
 pub mod Fair
 pub mod Singles
 pub mod Answering
+pub mod Applied
 pub mod Loops
 pub mod Rests
+pub mod Settled
 -- a machine beside its source
 pub mod Known
 pub mod Reasons

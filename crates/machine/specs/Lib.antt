@@ -1,4 +1,5 @@
 pub mod Codes
+pub mod Refusals
 pub mod Check
 pub mod Machine
 pub mod History
@@ -8,6 +9,9 @@ pub mod Replay
 pub mod Loop
 pub mod Rest
 pub mod Single
+pub mod Apply
 pub mod Move
+pub mod Made
+pub mod Within
 pub mod Sourced
 pub mod Table

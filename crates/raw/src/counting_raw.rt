@@ -13,9 +13,9 @@ pub fn counting_from(raw: &[u8]) -> State
     ensures { result ≡ counting_from raw.now }
 {
     State {
-        t: rows::get4(raw, 0),
-        count: rows::get1(raw, 4),
-        refs: rows::get1(raw, 5),
+        t: rows::get(raw, 0),
+        count: rows::get(raw, 4),
+        refs: rows::get(raw, 5),
         present: flags::set_at(raw, 6),
     }
 }
@@ -24,11 +24,10 @@ pub fn counting_from(raw: &[u8]) -> State
 pub fn put_counting(raw: &mut [u8], s: State) -> usize
     ensures { Laid raw.old 0 (counting_bytes s) result raw.new }
 {
-    if raw.len() < LENGTH {
-        return 0;
-    }
-    let a = rows::put4(raw, 0, s.t);
-    let b = rows::put1(raw, a, s.count);
-    let c = rows::put1(raw, b, s.refs);
-    rows::put1(raw, c, s.present as u8)
+    let [t0, t1, t2, t3] = s.t.to_be_bytes();
+    rows::put_bytes(
+        raw,
+        0,
+        &[t0, t1, t2, t3, s.count, s.refs, u8::from(s.present)],
+    )
 }

@@ -14,25 +14,18 @@ pub const LENGTH: usize = HEAD + limits::THREADS;
 pub fn flag_from(raw: &[u8]) -> State
     ensures { result ≡ flag_from raw.now }
 {
-    let places = places_from(raw);
     State {
-        threads: rows::get1(raw, 0),
-        pending: rows::get1(raw, 1),
+        threads: rows::get(raw, 0),
+        pending: rows::get(raw, 1),
         value: flags::set_at(raw, 2),
-        places,
+        places: places_from(raw),
     }
 }
 
 fn places_from(raw: &[u8]) -> [u8; limits::THREADS]
     ensures { result ≡ flag_places raw.now }
 {
-    let mut places = [0u8; limits::THREADS];
-    let mut k: usize = 0;
-    while k < limits::THREADS {
-        places[k] = rows::get1(raw, HEAD + k);
-        k += 1;
-    }
-    places
+    std::array::from_fn(|k| rows::get(raw, HEAD + k))
 }
 
 pub fn put_flag(raw: &mut [u8], s: State) -> usize
@@ -41,9 +34,6 @@ pub fn put_flag(raw: &mut [u8], s: State) -> usize
     if raw.len() < LENGTH {
         return 0;
     }
-    let a = rows::put1(raw, 0, s.threads);
-    let b = rows::put1(raw, a, s.pending);
-    let c = rows::put1(raw, b, s.value as u8);
-    let places = s.places;
-    rows::put(raw, c, &places)
+    let a = rows::put_bytes(raw, 0, &[s.threads, s.pending, u8::from(s.value)]);
+    rows::put_bytes(raw, a, &s.places)
 }

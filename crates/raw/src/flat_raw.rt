@@ -1,12 +1,13 @@
 // The flat combiner: each client's rid, req, resp, waiting, asked, told and slot; each element's rid and present; count, len, idx, responding.
-ghost use Rattle.std.specs.Prelude.{◌≡◌, ◌+◌, ◌*◌, ◌≤◌, length};
+ghost use Rattle.std.specs.Prelude.{◌≡◌, ◌≤◌, refl};
+ghost use Rattle.std.proofs.Common.{rules};
 ghost use Rattle.rows.specs.Stores.{Laid};
-ghost use Rattle.rows.specs.Walk.{pieces};
-ghost use Rattle.schedule.specs.Limits as limit;
-ghost use Rattle.raw.specs.Raw.{client_long, elem_long, combiner_long, elems_at, combiner_at, client_at, clients_from, elem_at, elems_from, flat_from, client_bytes, elem_bytes, combiner_bytes, flat_bytes};
+ghost use Rattle.raw.specs.Raw.{elems_at, combiner_at, client_at, clients_from, elem_at, elems_from, flat_from, client_bytes, elem_bytes, combiner_bytes, flat_bytes};
 
 use super::flags;
 use flat::state::{Client, Elem, State};
+use rows::laid;
+use rows::laid::Layout;
 use schedule::limits;
 
 // How many bytes a client, an element, and what the combiner has besides take.
@@ -25,14 +26,12 @@ pub const LENGTH: usize = COMBINER + REST;
 pub fn flat_from(raw: &[u8]) -> State
     ensures { result ≡ flat_from raw.now }
 {
-    let clients = clients_from(raw);
-    let elems = elems_from(raw);
     State {
-        clients,
-        elems,
-        count: rows::get1(raw, COMBINER),
-        len: rows::get1(raw, COMBINER + 1),
-        idx: rows::get1(raw, COMBINER + 2),
+        clients: clients_from(raw),
+        elems: elems_from(raw),
+        count: rows::get(raw, COMBINER),
+        len: rows::get(raw, COMBINER + 1),
+        idx: rows::get(raw, COMBINER + 2),
         responding: flags::set_at(raw, COMBINER + 3),
     }
 }
@@ -40,23 +39,7 @@ pub fn flat_from(raw: &[u8]) -> State
 fn clients_from(raw: &[u8]) -> [Client; limits::CLIENTS]
     ensures { result ≡ clients_from raw.now }
 {
-    let none = Client {
-        rid: 0,
-        req: 0,
-        resp: 0,
-        waiting: false,
-        asked: false,
-        told: false,
-        slot: false,
-    };
-    let mut clients = [none; limits::CLIENTS];
-    let mut k: usize = 0;
-    while k < limits::CLIENTS {
-        let c = client_at(raw, CLIENT * k);
-        clients[k] = c;
-        k += 1;
-    }
-    clients
+    std::array::from_fn(|k| client_at(raw, CLIENT * k))
 }
 
 fn client_at(raw: &[u8], at: usize) -> Client
@@ -64,9 +47,9 @@ fn client_at(raw: &[u8], at: usize) -> Client
     ensures { result ≡ client_at raw.now at }
 {
     Client {
-        rid: rows::get4(raw, at),
-        req: rows::get4(raw, at + 4),
-        resp: rows::get4(raw, at + 8),
+        rid: rows::get(raw, at),
+        req: rows::get(raw, at + 4),
+        resp: rows::get(raw, at + 8),
         waiting: flags::set_at(raw, at + 12),
         asked: flags::set_at(raw, at + 13),
         told: flags::set_at(raw, at + 14),
@@ -77,18 +60,7 @@ fn client_at(raw: &[u8], at: usize) -> Client
 fn elems_from(raw: &[u8]) -> [Elem; limits::CLIENTS]
     ensures { result ≡ elems_from raw.now }
 {
-    let none = Elem {
-        rid: 0,
-        present: false,
-    };
-    let mut elems = [none; limits::CLIENTS];
-    let mut k: usize = 0;
-    while k < limits::CLIENTS {
-        let e = elem_at(raw, ELEMS + ELEM * k);
-        elems[k] = e;
-        k += 1;
-    }
-    elems
+    std::array::from_fn(|k| elem_at(raw, ELEMS + ELEM * k))
 }
 
 fn elem_at(raw: &[u8], at: usize) -> Elem
@@ -96,7 +68,7 @@ fn elem_at(raw: &[u8], at: usize) -> Elem
     ensures { result ≡ elem_at raw.now at }
 {
     Elem {
-        rid: rows::get4(raw, at),
+        rid: rows::get(raw, at),
         present: flags::set_at(raw, at + 4),
     }
 }
@@ -107,65 +79,66 @@ pub fn put_flat(raw: &mut [u8], s: State) -> usize
     if raw.len() < LENGTH {
         return 0;
     }
-    let clients = s.clients;
-    let elems = s.elems;
-    let a = put_clients(raw, clients);
-    let b = put_elems(raw, a, elems);
+    let a = laid::put_all::<ClientLayout, Client>(raw, 0, &s.clients);
+    let b = laid::put_all::<ElemLayout, Elem>(raw, a, &s.elems);
     put_combiner(raw, b, s)
 }
 
+// A client, field by field.
+struct ClientLayout;
+
+impl Layout<Client> for ClientLayout {
+    ghost LONG = { 16 };
+
+    const LONG: usize = CLIENT;
+
+    ghost bytes = { client_bytes };
+
+    fn put(out: &mut [u8], at: usize, c: Client) -> usize {
+        let [rid0, rid1, rid2, rid3] = c.rid.to_be_bytes();
+        let [req0, req1, req2, req3] = c.req.to_be_bytes();
+        let [resp0, resp1, resp2, resp3] = c.resp.to_be_bytes();
+        let waiting = u8::from(c.waiting);
+        let asked = u8::from(c.asked);
+        let told = u8::from(c.told);
+        let slot = u8::from(c.slot);
+        rows::put_bytes(
+            out,
+            at,
+            &[
+                rid0, rid1, rid2, rid3, req0, req1, req2, req3, resp0, resp1, resp2, resp3,
+                waiting, asked, told, slot,
+            ],
+        )
+    }
+
+    ghost even = { λ c. refl };
+
+    ghost some = { Prim.search rules };
+}
+
+// An element, field by field.
+struct ElemLayout;
+
+impl Layout<Elem> for ElemLayout {
+    ghost LONG = { 5 };
+
+    const LONG: usize = ELEM;
+
+    ghost bytes = { elem_bytes };
+
+    fn put(out: &mut [u8], at: usize, e: Elem) -> usize {
+        let [rid0, rid1, rid2, rid3] = e.rid.to_be_bytes();
+        rows::put_bytes(out, at, &[rid0, rid1, rid2, rid3, u8::from(e.present)])
+    }
+
+    ghost even = { λ e. refl };
+
+    ghost some = { Prim.search rules };
+}
+
 fn put_combiner(raw: &mut [u8], at: usize, s: State) -> usize
-    requires { at + combiner_long ≤ length raw.old }
     ensures { Laid raw.old at (combiner_bytes s) result raw.new }
 {
-    let a = rows::put1(raw, at, s.count);
-    let b = rows::put1(raw, a, s.len);
-    let c = rows::put1(raw, b, s.idx);
-    rows::put1(raw, c, s.responding as u8)
-}
-
-fn put_clients(raw: &mut [u8], clients: [Client; limits::CLIENTS]) -> usize
-    requires { elems_at ≤ length raw.old }
-    ensures { Laid raw.old 0 (pieces client_bytes clients) result raw.new }
-{
-    let mut i: usize = 0;
-    let mut p: usize = 0;
-    while i < limits::CLIENTS {
-        let c = clients[i];
-        p = put_client(raw, p, c);
-        i += 1;
-    }
-    p
-}
-
-fn put_client(raw: &mut [u8], at: usize, c: Client) -> usize
-    requires { at + client_long ≤ length raw.old }
-    ensures { Laid raw.old at (client_bytes c) result raw.new }
-{
-    let a = rows::put4(raw, at, c.rid);
-    let b = rows::put4(raw, a, c.req);
-    let d = rows::put4(raw, b, c.resp);
-    flags::put_flags(raw, d, c.waiting, c.asked, c.told, c.slot)
-}
-
-fn put_elems(raw: &mut [u8], at: usize, elems: [Elem; limits::CLIENTS]) -> usize
-    requires { at + elem_long * limit.clients ≤ length raw.old }
-    ensures { Laid raw.old at (pieces elem_bytes elems) result raw.new }
-{
-    let mut i: usize = 0;
-    let mut p = at;
-    while i < limits::CLIENTS {
-        let e = elems[i];
-        p = put_elem(raw, p, e);
-        i += 1;
-    }
-    p
-}
-
-fn put_elem(raw: &mut [u8], at: usize, e: Elem) -> usize
-    requires { at + elem_long ≤ length raw.old }
-    ensures { Laid raw.old at (elem_bytes e) result raw.new }
-{
-    let a = rows::put4(raw, at, e.rid);
-    rows::put1(raw, a, e.present as u8)
+    rows::put_bytes(raw, at, &[s.count, s.len, s.idx, u8::from(s.responding)])
 }

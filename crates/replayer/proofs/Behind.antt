@@ -1,5 +1,5 @@
 -- From the front to the kind's loop: what the rest of an opened file comes to is the answer to the decoded file. Assumes nothing.
-use mathlib.Core.Path.{◌≡◌, refl, sym, ◌∙◌}
+use mathlib.Core.Path.{ap, ◌≡◌, refl, sym, ◌∙◌}
 use mathlib.Core.Bool.{Bool}
 use mathlib.Core.List.{List, map}
 use Prim.Native.Nat.{ℕ, ◌+◌, ◌≤◌, ◌<◌}
@@ -17,14 +17,14 @@ use Rattle.schedule.specs.Widths as kind
 use Rattle.schedule.specs.Reading.{Placed, broken, surplus, placed, places_from}
 use Rattle.schedule.specs.Front.{opened_of}
 use Rattle.schedule.specs.Given.{Ready, flat_ready, lock_ready, counting_ready, flag_ready}
-use Rattle.schedule.specs.Schedule.{Schedule, of_flat, of_lock, of_counting, of_flag, good, with_steps, behind_front, decode, params_in}
+use Rattle.schedule.specs.Schedule.{behind_params, Schedule, of_flat, of_lock, of_counting, of_flag, good, with_steps, behind_front, decode, params_in}
 use Rattle.schedule.specs.Answers.{refused_as, refused_for, Leaves, rest_placed, rest_from}
 use Rattle.schedule.specs.declared.answer.Answer.{Answer}
 use Rattle.schedule.specs.declared.steps.Params.{Params}
 use Rattle.schedule.specs.declared.steps.Params.TheVariants.{Flat, Lock, Counting, Flag}
 use Rattle.schedule.specs.declared.front.Fault.{Fault}
-use Rattle.schedule.specs.declared.front.Opened.{Opened}
-use Rattle.schedule.specs.declared.front.Opened.TheVariants.{Faulty, Open}
+use Rattle.std.specs.Prelude.{Ok, Err}
+use Rattle.schedule.specs.Front.{Opened, open_at}
 use Rattle.schedule.proofs.FrontSays.{params_of, Passed, front_says}
 use Rattle.flat.specs.Flat as flat
 use Rattle.flat.specs.Image as flat_bytes
@@ -49,7 +49,7 @@ ready_within f from (lock_ready k l m n) = (m, n)
 ready_within f from (counting_ready k) = tt
 ready_within f from (flag_ready k l m n v) = (m, n)
 
-pub opened_within : (f : List ℕ) (p : Params) (from : ℕ) → opened_of f ≡ Open p from → (kind_of p).Within
+pub opened_within : (f : List ℕ) (p : Params) (from : ℕ) → opened_of f ≡ open_at p from → (kind_of p).Within
 opened_within f p from e =
     let s : Passed f p from = rw e at (front_says f) in
     rw s.params (ready_within f from s.ready)
@@ -61,16 +61,19 @@ steps_params l f make (broken k) s e = clash (cc)
 steps_params l f make surplus s e = clash (cc)
 steps_params l f make (placed ps) s e = let h : make (map (step_at l f) ps) ≡ s = cc in (map (step_at l f) ps, sym h)
 
-behind_params : (f : List ℕ) (o : Opened) (s : Schedule) → behind_front f o ≡ good s → (from : ℕ) × (o ≡ Open (params_in s) from)
-behind_params f (Faulty x) s e = clash (cc)
-behind_params f (Open (Flat n) at) s e = (at, rw (steps_params spelled.flat f (of_flat n) (places_from kind.flat limit.steps f at 0) s e).1)
-behind_params f (Open (Lock w t) at) s e = (at, rw (steps_params spelled.lock f (of_lock w t) (places_from kind.lock limit.steps f at 0) s e).1)
-behind_params f (Open Counting at) s e = (at, rw (steps_params spelled.counting f of_counting (places_from kind.counting limit.steps f at 0) s e).1)
-behind_params f (Open (Flag n v) at) s e = (at, rw (steps_params spelled.flag f (of_flag n v) (places_from kind.flag limit.steps f at 0) s e).1)
+params_kept : (f : List ℕ) (p : Params) (at : ℕ) (s : Schedule) → behind_params f p at ≡ good s → p ≡ params_in s
+params_kept f (Flat n) at s e = rw (steps_params spelled.flat f (of_flat n) (places_from kind.flat limit.steps f at 0) s e).1
+params_kept f (Lock w t) at s e = rw (steps_params spelled.lock f (of_lock w t) (places_from kind.lock limit.steps f at 0) s e).1
+params_kept f Counting at s e = rw (steps_params spelled.counting f of_counting (places_from kind.counting limit.steps f at 0) s e).1
+params_kept f (Flag n v) at s e = rw (steps_params spelled.flag f (of_flag n v) (places_from kind.flag limit.steps f at 0) s e).1
+
+opened_params : (f : List ℕ) (o : Opened) (s : Schedule) → behind_front f o ≡ good s → (from : ℕ) × (o ≡ open_at (params_in s) from)
+opened_params f (Err x) s e = clash (cc)
+opened_params f (Ok o) s e = let p = params_kept f o.params o.from s e in (o.from, ap (λ (q : Params). open_at q o.from) p)
 
 pub decoded_within : (f : List ℕ) (s : Schedule) → decode f ≡ good s → (kind_of (params_in s)).Within
 unfolding decode
-decoded_within f s e = let o = behind_params f (opened_of f) s e in opened_within f (params_in s) o.0 o.1
+decoded_within f s e = let o = opened_params f (opened_of f) s e in opened_within f (params_in s) o.0 o.1
 
 -- ---------- they make a fresh machine
 
@@ -97,7 +100,7 @@ module _ (m : Machine) (l : Language m.Step) (bytes : m.Entry → List ℕ) (ima
   rest_answered from = placed_answered (places_from l.kind limit.steps f from 0)
 
 module _ (f log image : List ℕ) where
-  opened_answered : (p : Params) (from : ℕ) → (kind_of p).Within → opened_as f p from log image ≡ answered (behind_front f (Open p from)) log image
+  opened_answered : (p : Params) (from : ℕ) → (kind_of p).Within → opened_as f p from log image ≡ answered (behind_front f (open_at p from)) log image
   opened_answered (Flat n) from a =
       rw (flat_made n a) (rest_answered flat.flat spelled.flat flat_bytes.entry_bytes flat_bytes.image_bytes (flat.fresh_state n) (of_flat n) f log image (λ xs. refl) from)
   opened_answered (Lock w t) from a =
@@ -112,16 +115,16 @@ module _ (f log image : List ℕ) where
   -- ---------- the ways out of `replay`
 
   module _ (o : Opened) (q : o ≡ opened_of f) where
-    pub faulty_answered : (x : Fault) → o ≡ Faulty x → (r : Answer) → r ≡ refused_for x
+    pub faulty_answered : (x : Fault) → o ≡ Err x → (r : Answer) → r ≡ refused_for x
         → Leaves (replay_of f log image) r log image
     unfolding replay_of decode
     faulty_answered x e r p = rw (← q, e) (record { answer = p; log = refl; image = refl })
 
-    pub open_answered : (p : Params) (from : ℕ) → o ≡ Open p from → (r : Answer) (log' image' : List ℕ) → Leaves (opened_as f p from log image) r log' image'
+    pub open_answered : (p : Params) (from : ℕ) → o ≡ open_at p from → (r : Answer) (log' image' : List ℕ) → Leaves (opened_as f p from log image) r log' image'
         → Leaves (replay_of f log image) r log' image'
     unfolding replay_of decode
     open_answered p from e r log' image' d =
-        let w : opened_of f ≡ Open p from = sym q ∙ e in
+        let w : opened_of f ≡ open_at p from = sym q ∙ e in
         rw (w, ← opened_answered p from (opened_within f p from w)) d
 
 -- ---------- the ways out of `behind_front`: the kind is known

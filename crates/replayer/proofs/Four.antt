@@ -16,27 +16,27 @@ use Rattle.schedule.specs.declared.steps.LockStep.TheVariants.{ExcStart, ExcChec
 use Rattle.schedule.specs.declared.steps.CountingStep.TheVariants.{WriteableToReadable, ReadableToWriteable, NewRef, DeleteRef}
 use Rattle.schedule.specs.declared.steps.FlagStep.{FlagStep}
 use Rattle.schedule.specs.declared.steps.FlagStep.TheVariants.{Begin, Move, Read}
-use Rattle.schedule.proofs.Running.{Carries}
+use Rattle.schedule.specs.Carries.{Carries}
 use Rattle.flat.specs.Flat as flat
 use Rattle.flat.proofs.Refines as flatProved
 use Rattle.flat.proofs.Demands as flatDemands
 use Rattle.flat.proofs.Exact as flatExact
-use Rattle.flat_run.proofs.Carried as flatRan
+use Rattle.flat.proofs.Carried as flatRan
 use Rattle.lock.specs.Lock as lock
 use Rattle.lock.proofs.Refines as lockProved
 use Rattle.lock.proofs.Demands as lockDemands
 use Rattle.lock.proofs.Exact as lockExact
-use Rattle.lock_run.proofs.Carried as lockRan
+use Rattle.lock.proofs.Carried as lockRan
 use Rattle.counting.specs.Counting as counting
 use Rattle.counting.proofs.Refines as countingProved
 use Rattle.counting.proofs.Demands as countingDemands
-use Rattle.counting_run.proofs.Carried as countingRan
+use Rattle.counting.proofs.Carried as countingRan
 use Rattle.flag.specs.Flag as flag
 use Rattle.flag.specs.Refined as flagTo
 use Rattle.flag.specs.declared.state.State as flagState
 use Rattle.flag.proofs.Refines as flagProved
 use Rattle.flag.proofs.Demands as flagDemands
-use Rattle.flag_run.proofs.Carried as flagRan
+use Rattle.flag.proofs.Carried as flagRan
 use Rattle.replayer.specs.Kinds.{machine_of, StateOf, StepOf, Sound, kind_of, Steps}
 use Rattle.replayer.specs.Demands.{past_of, after_of}
 use Rattle.replayer.proofs.Rooms.{spans}

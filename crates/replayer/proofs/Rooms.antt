@@ -25,7 +25,7 @@ use Rattle.machine.proofs.Rests.{replay_short}
 use Rattle.machine.proofs.Sourceds.{exact}
 use Rattle.schedule.specs.Limits as limit
 use Rattle.schedule.specs.Running.{run_steps}
-use Rattle.schedule.proofs.Running.{Carries}
+use Rattle.schedule.specs.Carries.{Carries}
 use Rattle.replayer.specs.Kinds.{Kind, machine_of, StateOf, StepOf, EntryOf, Sound}
 use Rattle.replayer.specs.Demands.{Room, OfAStep, Wrote, Replays, past_of, after_of}
 

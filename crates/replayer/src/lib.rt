@@ -4,9 +4,8 @@
 ghost use Rattle.schedule.specs.Answers.{Leaves};
 ghost use Rattle.replayer.specs.Replay.{replay_of, opened_as, input_of};
 
-use machine::codes;
+use machine::refusal::Refusal;
 use schedule::answer::Answer;
-use schedule::front::Opened;
 use schedule::steps::Params;
 use schedule::{answer, front, limits};
 
@@ -18,8 +17,8 @@ pub fn replay(file: &[u8], log: &mut [u8], image: &mut [u8]) -> Answer
     ensures { Leaves (replay_of file.now log.old image.old) result log.new image.new }
 {
     match front::front(file) {
-        Opened::Faulty(f) => answer::of_fault(f),
-        Opened::Open { params, from } => behind_front(file, params, from, log, image),
+        Ok(opened) => behind_front(file, opened.params, opened.from, log, image),
+        Err(fault) => Answer::from(fault),
     }
 }
 
@@ -46,7 +45,7 @@ pub fn replay_input(input: &[u8], log: &mut [u8], image: &mut [u8]) -> Answer
     ensures { Leaves (input_of input.now log.old image.old) result log.new image.new }
 {
     if LARGEST < input.len() {
-        return answer::refused(codes::BODY, 0);
+        return answer::of_refusal(Refusal::Body, 0);
     }
     replay(input, log, image)
 }

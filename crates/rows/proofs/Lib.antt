@@ -8,5 +8,5 @@ pub mod Masks
 pub mod Tells
 pub mod Tables
 pub mod Settled
-pub mod Testing
 pub mod Laying
+pub mod Rowed

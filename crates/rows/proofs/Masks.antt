@@ -2,19 +2,16 @@
 use mathlib.Core.Path.{◌≡◌, refl}
 use mathlib.Core.Bool.{Bool, true, false}
 use mathlib.Core.List.{List, [], ◌∷◌}
-use Prim.Native.Nat.{ℕ, zero, suc, ◌+◌, ◌-◌, ◌*◌, ◌^◌, ◌/◌, ◌%◌, ◌≤◌, ◌<◌}
-use native.Mathlib.Nat.{pow-suc, not-suc-le-zero, zero-div, div-one}
+use Prim.Native.Nat.{ℕ, zero, suc, ◌+◌, ◌*◌, ◌^◌, ◌/◌, ◌%◌, ◌≤◌, ◌<◌}
+use native.Mathlib.Nat.{pow-suc, zero-div, div-one}
 use native.Mathlib.Numerals.{one-add}
-use native.Mathlib.Omega.{arith}
 use lib.Arith.{digits_lt, digits_div, digits_mod}
 use lib.Bits.{bit_and, bit_or, or_shifted, and_mask}
 use lib.Dec.{lit<, eqb}
-use lib.ListN.{length, get_or, drop, length-drop}
+use lib.ListN.{length, get_or}
 use lib.Pow.{shl_exact, shr-shr}
-use lib.Seq.{drop-cons}
 use mir.Val.{bool_byte}
 use Rattle.rows.specs.Mask.{mask}
-use Rattle.rows.proofs.Rows.{drop_end}
 
 pub bit_lt : (b : Bool) → bool_byte b < 2
 bit_lt true = lit< tt
@@ -33,22 +30,6 @@ module _ {A : Type 0} (f : A → Bool) where
   -- an entry more, shifted in from below, in a number of w bits
   pub mask_shl : (w : ℕ) (xs : List A) (x : A) → length xs + 1 ≤ w → bit_or ((mask f xs * 2 ^ 1) % 2 ^ w) (bool_byte (f x)) ≡ mask f (x ∷ xs)
   mask_shl w xs x h = rw (shl_exact (length xs) 1 w (mask_lt xs) h) (or_shifted (mask f xs) 1 (bool_byte (f x)) (bit_lt (f x)))
-
-  -- a turn of the loop that goes down a row from its end
-  pub mask_down : (w : ℕ) (xs : List A) (d : A) (i m : ℕ) → length xs ≤ w → 0 < i → i ≤ length xs → m ≡ mask f (drop i xs)
-      → bit_or ((m * 2 ^ 1) % 2 ^ w) (bool_byte (f (get_or xs (i - 1) d))) ≡ mask f (drop (i - 1) xs)
-  mask_down w xs d zero m n p h e = absurd (not-suc-le-zero p)
-  mask_down w xs d (suc j) m n p h e =
-      let back : suc j - 1 ≡ j = omega arith in
-      let room : length (drop (suc j) xs) + 1 ≤ w = simp length-drop (omega arith) in
-      rw (e, back, drop-cons xs j d h) (mask_shl w (drop (suc j) xs) (get_or xs j d) room)
-
-  -- its start, with no entry in the mask, and its end, with all of them
-  pub mask_none : (xs : List A) (n : ℕ) → length xs ≤ n → 0 ≡ mask f (drop n xs)
-  mask_none xs n h = rw (drop_end xs n h)
-
-  pub mask_all : (xs : List A) (i m : ℕ) → i ≤ 0 → m ≡ mask f (drop i xs) → m ≡ mask f xs
-  mask_all xs i m h e = let z : i ≡ 0 = omega arith in rw z at e
 
   -- the bit at a place
   pub mask_at : (xs : List A) (d : A) → f d ≡ false → (i : ℕ) → mask f xs / 2 ^ i % 2 ≡ bool_byte (f (get_or xs i d))

@@ -9,10 +9,10 @@ use Rattle.rows.specs.Stores.{Laid}
 pub settled : {A : Type 0} {r q x : A} → r ≡ x → q ≡ x → r ≡ q
 settled a b = a ∙ sym b
 
--- get1, get2 and get4, for w the number of bytes
+-- get, for w the number of bytes
 pub read_settled : (s : List ℕ) (at w : ℕ) {r q : ℕ} → r ≡ number_at s at w → q ≡ number_at s at w → r ≡ q
 read_settled s at w = settled
 
--- put1, put2, put4, put_last4 and put, for bs the bytes that they lay down
+-- put, put_last4, put_bytes and put_all, for bs the bytes that they lay down
 pub laid_settled : {l : List ℕ} {i : ℕ} {bs : List ℕ} {r q : ℕ} {l' m : List ℕ} → Laid l i bs r l' → Laid l i bs q m → (r ≡ q) × (l' ≡ m)
 laid_settled a b = (settled a.place b.place, settled a.bytes b.bytes)

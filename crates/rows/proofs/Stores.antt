@@ -7,7 +7,8 @@ use native.Mathlib.Numerals.{add-one}
 use native.Mathlib.Omega.{arith}
 use borrow.Author.Tests.{le-leb, lt-leb}
 use lib.ListN.{length, set, take, drop, length-append, length-set, length-drop}
-use lib.Seq.{sets, sets-eq, take-set-le, drop-set-lt, length-take-le}
+use lib.Seq.{sets, sets-eq, take-set-le, drop-set-lt, length-take-le, drop-drop}
+use borrow.Rule.Slice.PartMut.{put_mid}
 use Rattle.rows.specs.Bytes.{number, big, bytes_at, number_at}
 use Rattle.rows.specs.Stores.{over, puts, fitting, Laid}
 use Rattle.rows.proofs.Bytes.{spelled, length_big, bytes_at_at}
@@ -110,13 +111,6 @@ module _ (l : List ℕ) (i : ℕ) where
       let long = length_big w n in
       ap number (rw long at (bytes_back (big w n) (omega arith))) ∙ spelled w n small
 
--- a writer behind stores at a moving place
-pub stores_then : (l : List ℕ) (i : ℕ) (xs ys : List ℕ) (j r : ℕ) (l' : List ℕ) → i + length (xs ++ ys) ≤ length l → j ≡ i + length xs → Laid (puts l i xs) j ys r l'
-    → Laid l i (xs ++ ys) r l'
-stores_then l i xs ys j r l' h e k =
-    let fits : i + length xs ≤ length l = omega (arith, length-append xs ys) in
-    laid_then l i xs ys j (puts l i xs) r l' h (whole_laid l i xs j (puts l i xs) fits e refl) k
-
 -- what a writer leaves where its bytes do not fit: the buffer is too short, or the place too far back
 module _ (l : List ℕ) (at : ℕ) (bs : List ℕ) where
   pub too_short : length l < length bs → Laid l at bs at l
@@ -128,3 +122,9 @@ module _ (l : List ℕ) (at : ℕ) (bs : List ℕ) where
 -- what is laid down of a value that was matched
 pub laid_same : {A : Type 0} (bytes : A → List ℕ) (a b : A) (l : List ℕ) (at r : ℕ) (l' : List ℕ) → a ≡ b → Laid l at (bytes b) r l' → Laid l at (bytes a) r l'
 laid_same bytes a b l at r l' e d = rw e d
+
+-- a part of the buffer written over at once is a run of stores
+pub copied_puts : {A : Type 0} (l : List A) (i : ℕ) (vs part : List A) (k : ℕ) → part ≡ vs → k ≡ length vs → i + length vs ≤ length l
+    → put_mid i k l part ≡ puts l i vs
+copied_puts l i vs part k e n h =
+    rw (e, n, puts_eq l i vs h, drop-drop (length vs) i l)

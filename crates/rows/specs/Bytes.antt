@@ -1,5 +1,7 @@
 -- Bytes and the numbers that they spell, big-endian, of any width. Assumes nothing.
-use Rattle.std.specs.Prelude.{ℕ, zero, suc, ◌+◌, ◌*◌, ◌/◌, ◌%◌, ◌<◌, Bool, true, false, cond, ◌&&◌, List, [], ◌∷◌, eqb, leb, length, get_or, take, drop}
+use Rattle.std.proofs.Common.{sym, ap}
+use Rattle.std.proofs.Math.Nat.{mod-eq_of_lt}
+use Rattle.std.specs.Prelude.{◌≡◌, ℕ, zero, suc, ◌+◌, ◌*◌, ◌/◌, ◌%◌, ◌^◌, ◌<◌, Bool, true, false, cond, ◌&&◌, List, [], ◌∷◌, eqb, leb, length, get_or, take, drop}
 
 -- every entry is a byte, as in every slice of u8
 abbrev pub Bytes : List ℕ → Type 0
@@ -38,3 +40,7 @@ alike [] [] = true
 alike [] (y ∷ ys) = false
 alike (x ∷ xs) [] = false
 alike (x ∷ xs) (y ∷ ys) = eqb x y && alike xs ys
+
+-- a byte is the one byte of itself
+pub big_one : (n : ℕ) → n < 256 ^ 1 → n ∷ [] ≡ big 1 n
+big_one n h = ap (λ (b : ℕ). b ∷ []) (sym (mod-eq_of_lt h))

@@ -12,7 +12,8 @@ use Rattle.schedule.specs.Reading.{Placed, broken, surplus, placed, places_from}
 use Rattle.schedule.specs.Schedule.{Schedule, good, with_steps, steps_bytes, StepsFit}
 use Rattle.schedule.specs.Given.{Whole#, no_more, more}
 use Rattle.schedule.proofs.PlacesSay.{places_of, length_places_of, PlacesSay, places_say, whole_placed}
-use Rattle.schedule.proofs.Languages.{Lawful, sized}
+use Rattle.schedule.specs.Lawful.{Lawful}
+use Rattle.schedule.proofs.Languages.{sized}
 use Rattle.schedule.proofs.OneStep.{length_step_bytes, step_next, step_read, step_stands, step_fits, step_again}
 
 -- a file ends where nothing is left of it

@@ -8,15 +8,15 @@ use Rattle.rows.specs.Bytes.{Bytes}
 use Rattle.rows.proofs.Cases.{clash}
 use Rattle.schedule.specs.Limits as limit
 use Rattle.schedule.specs.Spelling.{flat, lock, counting, flag}
-use Rattle.schedule.specs.Front.{opened_of}
-use Rattle.schedule.specs.Schedule.{Schedule, of_flat, of_lock, of_counting, of_flag, Decoded, faulty, good, behind_front, decode, encode, steps_bytes, InLimits}
+use Rattle.std.specs.Prelude.{Ok, Err}
+use Rattle.schedule.specs.Front.{opened_of, Opened}
+use Rattle.schedule.specs.Schedule.{behind_params, Schedule, of_flat, of_lock, of_counting, of_flag, Decoded, faulty, good, behind_front, decode, encode, steps_bytes, InLimits}
 use Rattle.schedule.specs.Given.{HasFault}
 use Rattle.schedule.specs.Canonical.{WrittenAgain, ReadBack, OnlyInLimits, FileOf, AllSorted}
+use Rattle.schedule.specs.declared.steps.Params.{Params}
 use Rattle.schedule.specs.declared.steps.Params.TheVariants.{Flat, Lock, Counting, Flag}
 use Rattle.schedule.specs.declared.front.Fault.{Fault}
-use Rattle.schedule.specs.declared.front.Opened.{Opened}
-use Rattle.schedule.specs.declared.front.Opened.TheVariants.{Faulty, Open}
-use Rattle.schedule.proofs.FrontSays.{FrontSays, front_says}
+use Rattle.schedule.proofs.FrontSays.{Passed, FrontSays, front_says}
 use Rattle.schedule.proofs.Given.{faults_given}
 use Rattle.schedule.proofs.Languages.{flat_lawful, lock_lawful, counting_lawful, flag_lawful}
 use Rattle.schedule.proofs.AllSteps.{steps_short, steps_read, told}
@@ -28,21 +28,24 @@ record Canonical (f : List ℕ) (s : Schedule) : Type 0 where
   again : encode s ≡ f
   within : InLimits s
 
-behind : (f : List ℕ) (s : Schedule) → Bytes f → (o : Opened) → FrontSays f o → behind_front f o ≡ good s → Canonical f s
+behind_lem : (f : List ℕ) (s : Schedule) → Bytes f → (p : Params) (at : ℕ) → Passed f p at → behind_params f p at ≡ good s → Canonical f s
 unfolding encode
-behind f s bytes (Faulty fault) h e = clash (cc)
-behind f s bytes (Open (Flat n) at) h e =
+behind_lem f s bytes (Flat n) at h e =
     let t = told flat flat_lawful f bytes (of_flat n) s limit.steps at 0 e in
     record { again = rw t.made (front_again f bytes (Flat n) at h _ t.again); within = rw t.made (record { allowed = front_allowed f bytes (Flat n) at h; few = t.few; fit = t.fit }) }
-behind f s bytes (Open (Lock n v) at) h e =
+behind_lem f s bytes (Lock n v) at h e =
     let t = told lock lock_lawful f bytes (of_lock n v) s limit.steps at 0 e in
     record { again = rw t.made (front_again f bytes (Lock n v) at h _ t.again); within = rw t.made (record { allowed = front_allowed f bytes (Lock n v) at h; few = t.few; fit = t.fit }) }
-behind f s bytes (Open Counting at) h e =
+behind_lem f s bytes Counting at h e =
     let t = told counting counting_lawful f bytes of_counting s limit.steps at 0 e in
     record { again = rw t.made (front_again f bytes Counting at h _ t.again); within = rw t.made (record { allowed = tt; few = t.few; fit = t.fit }) }
-behind f s bytes (Open (Flag n v) at) h e =
+behind_lem f s bytes (Flag n v) at h e =
     let t = told flag flag_lawful f bytes (of_flag n v) s limit.steps at 0 e in
     record { again = rw t.made (front_again f bytes (Flag n v) at h _ t.again); within = rw t.made (record { allowed = front_allowed f bytes (Flag n v) at h; few = t.few; fit = t.fit }) }
+
+behind : (f : List ℕ) (s : Schedule) → Bytes f → (o : Opened) → FrontSays f o → behind_front f o ≡ good s → Canonical f s
+behind f s bytes (Err fault) h e = clash (cc)
+behind f s bytes (Ok o) h e = behind_lem f s bytes o.params o.from h e
 
 canonical : (f : List ℕ) (s : Schedule) → Bytes f → decode f ≡ good s → Canonical f s
 unfolding decode

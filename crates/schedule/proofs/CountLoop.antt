@@ -9,9 +9,9 @@ use lib.ListN.{length}
 use Rattle.schedule.specs.Limits as limit
 use Rattle.schedule.specs.Reading.{measured_at, Placed, broken, surplus, placed, and, places_from}
 use Rattle.schedule.specs.Counting.{counted, counted_of}
-use Rattle.schedule.specs.declared.lengths.Measured.TheVariants.{End, Broken, Whole}
+use Rattle.schedule.specs.Reading.{none_left, no_step, reaches}
 use Rattle.schedule.specs.declared.front.Fault.TheVariants.{Step, Surplus}
-use Rattle.schedule.specs.declared.count.Counted.TheVariants.{Faulty, Steps}
+use Rattle.std.specs.Prelude.{Ok, Err}
 
 -- one step more is counted, whatever follows it
 one_more : (k at : ℕ) (p : Placed) → counted (k + 1) p ≡ counted k (and at p)
@@ -30,28 +30,32 @@ module _ (kind : ℕ) (f : List ℕ) (from : ℕ) where
   begins = let z : limit.steps - 0 ≡ limit.steps = omega arith in record { below = omega arith; rest = rw z }
 
   module _ (at k : ℕ) (u : Underway at k) where
-    module _ (full : k ≡ limit.steps) where
-      pub ends_full : length f ≤ at → Steps k ≡ counted_of kind f from
+    module _ (full : limit.steps ≤ k) where
+      pub ends_full : length f ≤ at → Ok limit.steps ≡ counted_of kind f from
       unfolding places_from
-      ends_full h = let z : limit.steps - k ≡ 0 = omega arith in let e = u.rest in rw (z, le-ltb at (length f) h, add-zero) at e
+      ends_full h =
+          let z : limit.steps - k ≡ 0 = omega arith in
+          let n : k ≡ limit.steps = omega (arith, u.below) in
+          let e = u.rest in
+          rw (← n) (rw (z, le-ltb at (length f) h, add-zero) at e)
 
-      pub ends_surplus : at < length f → Faulty Surplus ≡ counted_of kind f from
+      pub ends_surplus : at < length f → Err Surplus ≡ counted_of kind f from
       unfolding places_from
       ends_surplus h = let z : limit.steps - k ≡ 0 = omega arith in let e = u.rest in rw (z, lt-ltb at (length f) h) at e
 
-    module _ (more : k ≡ limit.steps → ⊥) where
+    module _ (more : k < limit.steps) where
       one : limit.steps - k ≡ suc (limit.steps - (k + 1))
       one = omega (arith, u.below)
 
-      pub ends : End ≡ measured_at kind f at → Steps k ≡ counted_of kind f from
+      pub ends : none_left ≡ measured_at kind f at → Ok k ≡ counted_of kind f from
       unfolding places_from
       ends e = rw (one, ← e, add-zero) at u.rest
 
-      pub ends_broken : Broken ≡ measured_at kind f at → Faulty (Step k) ≡ counted_of kind f from
+      pub ends_broken : no_step ≡ measured_at kind f at → Err (Step k) ≡ counted_of kind f from
       unfolding places_from
       ends_broken e = rw (one, ← e) at u.rest
 
-      pub goes_on : (next : ℕ) → Whole next ≡ measured_at kind f at → Underway next (k + 1)
+      pub goes_on : (next : ℕ) → reaches next ≡ measured_at kind f at → Underway next (k + 1)
       unfolding places_from
       goes_on next e =
           record {

@@ -13,12 +13,12 @@ use Rattle.rows.proofs.Rows.{drop_one}
 use Rattle.rows.proofs.Cases.{on}
 use Rattle.schedule.specs.Limits as limit
 use Rattle.schedule.specs.Widths as kind
-use Rattle.schedule.specs.Front.{opened_of}
+use Rattle.schedule.specs.Front.{opened_of, open_at}
 use Rattle.schedule.specs.Schedule.{front_bytes, Allowed}
 use Rattle.schedule.specs.Given.{Framed, Ready, flat_ready, lock_ready, counting_ready, flag_ready}
 use Rattle.schedule.specs.declared.steps.Params.{Params}
 use Rattle.schedule.specs.declared.steps.Params.TheVariants.{Flat, Lock, Counting, Flag}
-use Rattle.schedule.specs.declared.front.Opened.TheVariants.{Open}
+use Rattle.schedule.specs.Front.{open_at}
 use Rattle.schedule.proofs.FrontSays.{params_of, Passed, ready_opened}
 use Rattle.schedule.proofs.Numbers.{left_number, number_fits, number_again}
 
@@ -39,7 +39,7 @@ byte_of_flag true = (omega arith, refl)
 byte_of_flag false = (omega arith, refl)
 
 pub front_read : (p : Params) (rest : List ℕ) → Allowed p → length (front_bytes p ++ rest) ≤ limit.body
-    → opened_of (file_of (front_bytes p ++ rest)) ≡ Open p (3 + length (front_bytes p))
+    → opened_of (file_of (front_bytes p ++ rest)) ≡ open_at p (3 + length (front_bytes p))
 front_read (Flat n) rest a h =
     let b = front_bytes (Flat n) ++ rest in
     ready_opened (file_of b) (body_framed b (omega arith) h) (flat_ready refl (omega arith) a)

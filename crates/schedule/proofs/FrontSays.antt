@@ -12,13 +12,12 @@ use Rattle.rows.specs.Bytes.{number_at}
 use Rattle.rows.proofs.Cases.{on}
 use Rattle.schedule.specs.Limits as limit
 use Rattle.schedule.specs.Widths as kind
-use Rattle.schedule.specs.Front.{flat_front, lock_front, flag_front, kind_front, opened_of}
+use Rattle.std.specs.Prelude.{Ok, Err}
+use Rattle.schedule.specs.Front.{flat_front, lock_front, flag_front, kind_front, opened_of, Opened, open_at}
 use Rattle.schedule.specs.Given.{WrongLength, RightLength, WrongVersion, LongBody, Framed, UnknownKind, Ready, flat_ready, lock_ready, counting_ready, flag_ready, WrongParameter}
 use Rattle.schedule.specs.declared.steps.Params.{Params}
 use Rattle.schedule.specs.declared.steps.Params.TheVariants.{Flat, Lock, Counting, Flag}
 use Rattle.schedule.specs.declared.front.Fault.TheVariants.{Length, Version, Body, Kind, Parameter, Step, Surplus}
-use Rattle.schedule.specs.declared.front.Opened.{Opened}
-use Rattle.schedule.specs.declared.front.Opened.TheVariants.{Faulty, Open}
 use Rattle.schedule.proofs.MeasureSays.{by_test}
 
 module _ (f : List ℕ) where
@@ -36,14 +35,14 @@ module _ (f : List ℕ) where
     pub params : p ≡ params_of ready
 
   abbrev pub FrontSays : Opened → Type 0
-  FrontSays (Faulty Length) = WrongLength f
-  FrontSays (Faulty Version) = WrongVersion f
-  FrontSays (Faulty Body) = LongBody f
-  FrontSays (Faulty Kind) = UnknownKind f
-  FrontSays (Faulty Parameter) = WrongParameter f
-  FrontSays (Faulty (Step k)) = ⊥
-  FrontSays (Faulty Surplus) = ⊥
-  FrontSays (Open p from) = Passed p from
+  FrontSays (Err Length) = WrongLength f
+  FrontSays (Err Version) = WrongVersion f
+  FrontSays (Err Body) = LongBody f
+  FrontSays (Err Kind) = UnknownKind f
+  FrontSays (Err Parameter) = WrongParameter f
+  FrontSays (Err (Step k)) = ⊥
+  FrontSays (Err Surplus) = ⊥
+  FrontSays (Ok o) = Passed o.params o.from
 
   -- ---- what each kind asks of its parameters
 
@@ -144,16 +143,16 @@ module _ (f : List ℕ) where
 
   -- ---- from the file to the answer
 
-  pub length_opened : WrongLength f → opened_of f ≡ Faulty Length
+  pub length_opened : WrongLength f → opened_of f ≡ Err Length
   unfolding opened_of
   length_opened (inl h) = rw (lt-ltb (length f) 4 h)
   length_opened (inr n) = on (ltb (length f) 4) (λ e. rw e) (λ e. rw (e, ne_eqb _ _ n))
 
-  pub version_opened : WrongVersion f → opened_of f ≡ Faulty Version
+  pub version_opened : WrongVersion f → opened_of f ≡ Err Version
   unfolding opened_of
   version_opened w = rw (le-ltb _ _ w.sized.long, eq-eqb _ _ w.sized.told, ne_eqb _ _ w.version)
 
-  pub body_opened : LongBody f → opened_of f ≡ Faulty Body
+  pub body_opened : LongBody f → opened_of f ≡ Err Body
   unfolding opened_of
   body_opened w = rw (le-ltb _ _ w.sized.long, eq-eqb _ _ w.sized.told, eq-eqb _ _ w.version, lt-ltb _ _ w.long)
 
@@ -161,12 +160,12 @@ module _ (f : List ℕ) where
   unfolding opened_of
   framed_opened g = rw (le-ltb _ _ g.sized.long, eq-eqb _ _ g.sized.told, eq-eqb _ _ g.version, le-ltb _ _ g.short)
 
-  pub kind_opened : UnknownKind f → opened_of f ≡ Faulty Kind
+  pub kind_opened : UnknownKind f → opened_of f ≡ Err Kind
   kind_opened w =
       framed_opened w.framed
       ∙ rw (ne_eqb _ _ (λ e. w.unknown (inl e)), ne_eqb _ _ (λ e. w.unknown (inr (inl e))), ne_eqb _ _ (λ e. w.unknown (inr (inr (inl e)))), ne_eqb _ _ (λ e. w.unknown (inr (inr (inr e)))))
 
-  pub ready_opened : {from : ℕ} → Framed f → (r : Ready f from) → opened_of f ≡ Open (params_of r) from
+  pub ready_opened : {from : ℕ} → Framed f → (r : Ready f from) → opened_of f ≡ open_at (params_of r) from
   ready_opened g (flat_ready k l n) = framed_opened g ∙ rw (k, le-ltb (length f) 5 l, le-ltb limit.clients (get_or f 4 0) n)
   ready_opened g (lock_ready k l m n) =
       framed_opened g ∙ rw (k, le-ltb (length f) 9 l, ne_eqb (get_or f 4 0) 0 (λ e. omega arith), le-ltb limit.width (get_or f 4 0) n)
@@ -175,16 +174,16 @@ module _ (f : List ℕ) where
       framed_opened g
       ∙ rw (k, le-ltb (length f) 6 l, ne_eqb (get_or f 4 0) 0 (λ e. omega arith), le-ltb limit.threads (get_or f 4 0) n, le-ltb 1 (get_or f 5 0) v)
 
-  only_parameter : (o : Opened) → FrontSays o → WrongParameter f → o ≡ Faulty Parameter
-  only_parameter (Faulty Length) (inl h) w = absurd (omega (arith, w.framed.sized.long))
-  only_parameter (Faulty Length) (inr n) w = absurd (n w.framed.sized.told)
-  only_parameter (Faulty Version) s w = absurd (s.version w.framed.version)
-  only_parameter (Faulty Body) s w = absurd (omega (arith, s.long, w.framed.short))
-  only_parameter (Faulty Kind) s w = absurd (s.unknown w.known)
-  only_parameter (Faulty Parameter) s w = refl
-  only_parameter (Faulty (Step k)) s w = absurd s
-  only_parameter (Faulty Surplus) s w = absurd s
-  only_parameter (Open p from) s w = absurd (w.wrong from s.ready)
+  only_parameter : (o : Opened) → FrontSays o → WrongParameter f → o ≡ Err Parameter
+  only_parameter (Err Length) (inl h) w = absurd (omega (arith, w.framed.sized.long))
+  only_parameter (Err Length) (inr n) w = absurd (n w.framed.sized.told)
+  only_parameter (Err Version) s w = absurd (s.version w.framed.version)
+  only_parameter (Err Body) s w = absurd (omega (arith, s.long, w.framed.short))
+  only_parameter (Err Kind) s w = absurd (s.unknown w.known)
+  only_parameter (Err Parameter) s w = refl
+  only_parameter (Err (Step k)) s w = absurd s
+  only_parameter (Err Surplus) s w = absurd s
+  only_parameter (Ok o) s w = absurd (w.wrong o.from s.ready)
 
-  pub parameter_opened : WrongParameter f → opened_of f ≡ Faulty Parameter
+  pub parameter_opened : WrongParameter f → opened_of f ≡ Err Parameter
   parameter_opened w = only_parameter (opened_of f) front_says w

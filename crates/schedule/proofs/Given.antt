@@ -11,13 +11,12 @@ use Rattle.schedule.specs.Limits as limit
 use Rattle.schedule.specs.Language.{Language, step_at}
 use Rattle.schedule.specs.Spelling.{flat, lock, counting, flag}
 use Rattle.schedule.specs.Reading.{Placed, broken, surplus, placed, places_from}
-use Rattle.schedule.specs.Front.{opened_of}
+use Rattle.std.specs.Prelude.{Ok, Err}
+use Rattle.schedule.specs.Front.{opened_of, Opened, open_at}
 use Rattle.schedule.specs.Schedule.{Schedule, of_flat, of_lock, of_counting, of_flag, Decoded, faulty, good, with_steps, behind_front, decode, steps#}
 use Rattle.schedule.specs.Given.{Framed, Ready, flat_ready, lock_ready, counting_ready, flag_ready, BrokenStep, SurplusBytes, WellFormed, HasFault, FaultsGiven}
 use Rattle.schedule.specs.declared.front.Fault.{Fault}
 use Rattle.schedule.specs.declared.front.Fault.TheVariants.{Length, Version, Body, Kind, Parameter, Step, Surplus}
-use Rattle.schedule.specs.declared.front.Opened.{Opened}
-use Rattle.schedule.specs.declared.front.Opened.TheVariants.{Faulty, Open}
 use Rattle.schedule.proofs.PlacesSay.{places_of, length_places_of, whole_inside, PlacesSay, places_say, broken_placed, surplus_placed, whole_placed}
 use Rattle.schedule.proofs.FrontSays.{params_of, FrontSays, front_says, ready_opened, length_opened, version_opened, body_opened, kind_opened, parameter_opened}
 
@@ -36,7 +35,7 @@ module _ (f : List ℕ) where
   -- what holds of the steps of any language, made a schedule of as many steps, holds behind a front that is ready
   behind_ready : (P : Decoded → Type 0) {from : ℕ} (r : Ready f from)
       → ((S : Type 0) (l : Language S) (make : List S → Schedule) → ((xs : List S) → steps# (make xs) ≡ length xs) → P (with_steps l f make (places_from (get_or f 3 0) limit.steps f from 0)))
-      → P (behind_front f (Open (params_of f r) from))
+      → P (behind_front f (open_at (params_of f r) from))
   behind_ready P (flat_ready k l n) h = rw k at (h _ flat (of_flat (get_or f 4 0)) (λ xs. refl))
   behind_ready P (lock_ready k l m n) h = rw k at (h _ lock (of_lock (get_or f 4 0) (number_at f 5 4)) (λ xs. refl))
   behind_ready P (counting_ready k) h = rw k at (h _ counting of_counting (λ xs. refl))
@@ -56,14 +55,15 @@ module _ (f : List ℕ) where
         record { framed = g; from = from; ready = r; few = rw n b.few; all = rw (n, ← e) b.whole }
 
   behind_says : (o : Opened) → FrontSays f o → FileSays f (behind_front f o)
-  behind_says (Faulty Length) s = s
-  behind_says (Faulty Version) s = s
-  behind_says (Faulty Body) s = s
-  behind_says (Faulty Kind) s = s
-  behind_says (Faulty Parameter) s = s
-  behind_says (Faulty (Step k)) s = absurd s
-  behind_says (Faulty Surplus) s = absurd s
-  behind_says (Open p from) s =
+  behind_says (Err Length) s = s
+  behind_says (Err Version) s = s
+  behind_says (Err Body) s = s
+  behind_says (Err Kind) s = s
+  behind_says (Err Parameter) s = s
+  behind_says (Err (Step k)) s = absurd s
+  behind_says (Err Surplus) s = absurd s
+  behind_says (Ok o) s =
+      let from = o.from in
       let ps = places_from (get_or f 3 0) limit.steps f from 0 in
       rw s.params
       (behind_ready (FileSays f) s.ready
@@ -78,7 +78,7 @@ module _ (f : List ℕ) where
 
   -- ---- from the file to the answer
 
-  front_given : (fault : Fault) → opened_of f ≡ Faulty fault → decode f ≡ faulty fault
+  front_given : (fault : Fault) → opened_of f ≡ Err fault → decode f ≡ faulty fault
   unfolding decode
   front_given fault e = rw e
 

@@ -10,7 +10,7 @@ use lib.ListN.{length, get_or, get_or-eq_default}
 use Rattle.rows.specs.Walk.{every}
 use Rattle.rows.proofs.Walks.{every_at}
 use Rattle.rows.proofs.Tables.{table_at}
-use Rattle.schedule.specs.Widths.{widths, widths_of, length_of, kinds, tags}
+use Rattle.schedule.specs.Widths.{widths, widths_of, length_of, RowOf, kinds, tags}
 use Rattle.schedule.proofs.LengthTable.{lengths, right, computed}
 
 pub in_table : (k t : ℕ) → k < kinds → t < tags → get_or (get_or lengths k []) t 0 ≡ length_of k t
@@ -45,3 +45,21 @@ module _ (k t : ℕ) (l : tags ≤ t) where
 
   pub no_length : 0 ≡ length_of k t
   no_length = by_kind (leb kinds k) refl
+
+-- the same of the place r in the table that a kind's byte tells, and of the place t in a row that a tag's byte tells
+module _ (k r : ℕ) (e : r ≡ k) where
+  pub row_in : r < kinds → RowOf k (get_or lengths r [])
+  row_in h = record { at = λ t l. rw (← e) (in_table r t h l) }
+
+  pub row_out : kinds ≤ r → RowOf k (get_or lengths 0 [])
+  row_out h = record { at = λ t l. rw (← e) (no_row r t h l) }
+
+  module _ (tag t : ℕ) (d : t ≡ tag) where
+    pub length_in : r < kinds → t < tags → get_or (get_or lengths r []) t 0 ≡ length_of k tag
+    length_in h l = rw (← e, ← d) (in_table r t h l)
+
+    pub length_out : kinds ≤ r → 0 ≡ length_of k tag
+    length_out h = rw (← e) (no_kind r tag h)
+
+    pub length_past : tags ≤ t → 0 ≡ length_of k tag
+    length_past l = rw (← d) (no_length k t l)

@@ -1,11 +1,11 @@
 -- What reading and writing ask of a language of steps, and that each of the four kinds gives it. Assumes nothing.
 use mathlib.Core.Path.{◌≡◌, refl, sym, ap}
 use mathlib.Core.List.{List, [], ◌∷◌}
-use Prim.Native.Nat.{ℕ, zero, suc, ◌+◌, ◌≤◌, ◌<◌}
+use Prim.Native.Nat.{ℕ, zero, suc, ◌+◌, ◌≤◌}
 use native.Mathlib.Omega.{arith}
 use lib.ListN.{length, get_or, drop}
 use Rattle.rows.proofs.Rows.{drop_one, drop_end}
-use Rattle.schedule.specs.Widths.{widths, widths_of, length_of, number_widths}
+use Rattle.schedule.specs.Widths.{widths, widths_of, number_widths}
 use Rattle.schedule.specs.Language.{Language, step_length, size_of}
 use Rattle.schedule.specs.Spelling.{flat, lock, counting, flag}
 use Rattle.schedule.specs.declared.steps.FlatStep.{FlatStep}
@@ -16,26 +16,8 @@ use Rattle.schedule.specs.declared.steps.CountingStep.{CountingStep}
 use Rattle.schedule.specs.declared.steps.CountingStep.TheVariants.{WriteableToReadable, ReadableToWriteable, NewRef, DeleteRef}
 use Rattle.schedule.specs.declared.steps.FlagStep.{FlagStep}
 use Rattle.schedule.specs.declared.steps.FlagStep.TheVariants.{Begin, Move, Read}
+use Rattle.schedule.specs.Lawful.{Spelled, Keeps, Lawful}
 use Rattle.schedule.proofs.Numbers.{total}
-
--- of a step: its tag and numbers make it again, its tag takes a byte, and it takes at most 10 bytes behind its length byte
-pub record Spelled {S : Type 0} (l : Language S) (x : S) : Type 0 where
-  pub again : l.step (l.tag x) (l.numbers x) ≡ x
-  pub tagged : widths_of l.kind (l.tag x) ≡ 1 ∷ number_widths l.kind (l.tag x)
-  pub short : length_of l.kind (l.tag x) ≤ 10
-
--- of a tag and numbers: the step that they make has them
-pub record Kept {S : Type 0} (l : Language S) (t : ℕ) (ns : List ℕ) : Type 0 where
-  pub tag : l.tag (l.step t ns) ≡ t
-  pub numbers : l.numbers (l.step t ns) ≡ ns
-
--- it does wherever the kind has the tag and the tag takes as many numbers
-abbrev pub Keeps : {S : Type 0} → Language S → Type 0
-Keeps l = (t : ℕ) (ns : List ℕ) → 0 < length_of l.kind t → length ns ≡ length (number_widths l.kind t) → Kept l t ns
-
-pub record Lawful {S : Type 0} (l : Language S) : Type 0 where
-  pub spelled : (x : S) → Spelled l x
-  pub kept : Keeps l
 
 -- ---- a step's size, as its law has it
 

@@ -5,8 +5,6 @@ pub mod LengthTable
 pub mod InTable
 pub mod MeasureTests
 pub mod PastEnd
-pub mod Tags
-pub mod Found
 pub mod CountLoop
 -- what each answer says of the file's bytes, and that the bytes settle it
 pub mod MeasureSays
@@ -24,4 +22,5 @@ pub mod Canonical
 pub mod LoopSteps
 pub mod Rests
 pub mod Running
+pub mod Applying
 pub mod Settled

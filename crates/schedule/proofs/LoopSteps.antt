@@ -13,16 +13,17 @@ use Rattle.schedule.specs.Spelling.{flat, lock, counting, flag}
 use Rattle.schedule.specs.Reading.{measured_at, Placed, broken, surplus, placed, places_from}
 use Rattle.schedule.specs.Counting.{counted, counted_of}
 use Rattle.schedule.specs.Given.{Whole#, no_more, more}
-use Rattle.schedule.specs.declared.lengths.Measured.TheVariants.{Whole}
-use Rattle.schedule.specs.declared.count.Counted.TheVariants.{Steps}
+use Rattle.schedule.specs.Reading.{reaches}
+use Rattle.std.specs.Prelude.{Ok}
 use Rattle.schedule.proofs.MeasureSays.{whole_stands, stands_inside}
 use Rattle.schedule.proofs.PlacesSay.{length_places_of, PlacedAt, places_say}
-use Rattle.schedule.proofs.Languages.{Lawful, flat_lawful, lock_lawful, counting_lawful, flag_lawful}
+use Rattle.schedule.specs.Lawful.{Lawful}
+use Rattle.schedule.proofs.Languages.{flat_lawful, lock_lawful, counting_lawful, flag_lawful}
 use Rattle.schedule.proofs.OneStep.{step_ends}
 use Rattle.schedule.proofs.AllSteps.{steps_of}
 
 -- a step that was measured whole ends inside the file
-pub inside : (kind : ℕ) (f : List ℕ) (at next : ℕ) → measured_at kind f at ≡ Whole next → next ≤ length f
+pub inside : (kind : ℕ) (f : List ℕ) (at next : ℕ) → measured_at kind f at ≡ reaches next → next ≤ length f
 inside kind f at next e = stands_inside kind f at next (whole_stands kind f at next e)
 
 -- the loop's steps from `at` on are those at the places, and all lie in the file
@@ -32,7 +33,7 @@ Bridged l f at ps =
 
 module _ {S : Type 0} (l : Language S) (law : Lawful l) (f : List ℕ) where
   -- a step reaches as far as was measured
-  pub agrees : (at next : ℕ) → measured_at l.kind f at ≡ Whole next → next ≡ at + size_of l (step_at l f at)
+  pub agrees : (at next : ℕ) → measured_at l.kind f at ≡ reaches next → next ≡ at + size_of l (step_at l f at)
   agrees at next e = step_ends l law f at next (whole_stands l.kind f at next e)
 
   -- and so the loop comes to each of the whole steps
@@ -80,18 +81,18 @@ pub record Places (n : ℕ) (p : Placed) : Type 0 where
   pub many : length list ≡ n
   pub are : p ≡ placed list
 
-by_count : (p : Placed) (n : ℕ) → counted 0 p ≡ Steps n → Places n p
+by_count : (p : Placed) (n : ℕ) → counted 0 p ≡ Ok n → Places n p
 by_count (broken i) n e = clash (cc)
 by_count surplus n e = clash (cc)
 by_count (placed ps) n e = let h : 0 + length ps ≡ n = cc in record { list = ps; many = sym (zero-add (length ps)) ∙ h; are = refl }
 
 -- a file that counts n steps has as many places
-pub counted_places : (kind : ℕ) (f : List ℕ) (from n : ℕ) → counted_of kind f from ≡ Steps n → Places n (places_from kind limit.steps f from 0)
+pub counted_places : (kind : ℕ) (f : List ℕ) (from n : ℕ) → counted_of kind f from ≡ Ok n → Places n (places_from kind limit.steps f from 0)
 unfolding counted_of
 counted_places kind f from n e = by_count (places_from kind limit.steps f from 0) n e
 
 -- so the loop may read n steps from there on
-pub counted_formed : {S : Type 0} (l : Language S) (law : Lawful l) (f : List ℕ) (from n : ℕ) → counted_of l.kind f from ≡ Steps n
+pub counted_formed : {S : Type 0} (l : Language S) (law : Lawful l) (f : List ℕ) (from n : ℕ) → counted_of l.kind f from ≡ Ok n
     → Formed (step_at l) (size_of l) f from n
 counted_formed l law f from n e =
     let c = counted_places l.kind f from n e in

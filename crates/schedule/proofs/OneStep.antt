@@ -11,7 +11,8 @@ use Rattle.schedule.specs.Widths.{length_of, number_widths}
 use Rattle.schedule.specs.Language.{Language, numbers_at, number_bytes, step_at, step_length, size_of, step_bytes, Writable}
 use Rattle.schedule.specs.Given.{Stands}
 use Rattle.schedule.proofs.Numbers.{total, left_length, left_next, left_first, length_number_bytes, numbers_read, length_numbers_at, numbers_fit, numbers_again}
-use Rattle.schedule.proofs.Languages.{Lawful, Kept, parts}
+use Rattle.schedule.specs.Lawful.{Lawful, Kept}
+use Rattle.schedule.proofs.Languages.{parts}
 
 module _ {S : Type 0} (l : Language S) (law : Lawful l) where
   pub length_step_bytes : (x : S) → Writable l x → length (step_bytes l x) ≡ size_of l x

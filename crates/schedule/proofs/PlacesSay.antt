@@ -9,8 +9,8 @@ use lib.Dec.{ltb}
 use lib.ListN.{length}
 use Rattle.schedule.specs.Reading.{measured_at, Placed, broken, surplus, placed, and, by_measure, places_from}
 use Rattle.schedule.specs.Given.{Stands, Malformed, Whole#, no_more, more}
-use Rattle.schedule.specs.declared.lengths.Measured.{Measured}
-use Rattle.schedule.specs.declared.lengths.Measured.TheVariants.{End, Broken, Whole}
+use Rattle.std.specs.Prelude.{None, Some, Ok, Err}
+use Rattle.schedule.specs.Reading.{Measured}
 use Rattle.schedule.proofs.MeasureSays.{by_test, MeasureSays, measure_says, end_measured, stands_measured, malformed_measured, stands_inside}
 
 module _ (kind : ℕ) (f : List ℕ) where
@@ -84,10 +84,10 @@ module _ (kind : ℕ) (f : List ℕ) where
 
   by_measure_lem : (n at k : ℕ) (go : ℕ → Placed) (m : Measured) → MeasureSays kind f at m → ((next : ℕ) → PlacesSay n next (k + 1) (go next))
       → PlacesSay (suc n) at k (by_measure go at k m)
-  by_measure_lem n at k go End h g = ended (suc n) at h
-  by_measure_lem n at k go Broken w g =
+  by_measure_lem n at k go (Ok None) h g = ended (suc n) at h
+  by_measure_lem n at k go (Err none) w g =
       record { before = 0; to = at; index = omega arith; below = omega arith; whole = no_more; malformed = w }
-  by_measure_lem n at k go (Whole next) s g = one_more n at next k (go next) s (g next)
+  by_measure_lem n at k go (Ok (Some next)) s g = one_more n at next k (go next) s (g next)
 
   pub places_say : (n at k : ℕ) → PlacesSay n at k (places_from kind n f at k)
   unfolding places_from

@@ -25,13 +25,13 @@ use Rattle.schedule.specs.Answers.{refused_as, refused_for, Leaves, rest_placed,
 use Rattle.schedule.specs.declared.answer.Answer.{Answer}
 use Rattle.schedule.specs.declared.front.Fault.{Fault}
 use Rattle.schedule.specs.declared.front.Fault.TheVariants.{Step, Surplus}
-use Rattle.schedule.specs.declared.count.Counted.TheVariants.{Faulty, Steps}
-use Rattle.schedule.proofs.Languages.{Lawful}
+use Rattle.std.specs.Prelude.{Ok, Err}
+use Rattle.schedule.specs.Lawful.{Lawful}
 use Rattle.schedule.proofs.PlacesSay.{PlacedAt, length_places_of, places_say}
 use Rattle.schedule.proofs.LoopSteps.{counted_places, bridge}
 
 -- no more steps are counted than a file may have
-pub counted_few : (kind : ℕ) (f : List ℕ) (from n : ℕ) → counted_of kind f from ≡ Steps n → n ≤ limit.steps
+pub counted_few : (kind : ℕ) (f : List ℕ) (from n : ℕ) → counted_of kind f from ≡ Ok n → n ≤ limit.steps
 counted_few kind f from n e =
     let c = counted_places kind f from n e in
     let p : PlacedAt kind f limit.steps from c.list = rw c.are at (places_say kind f limit.steps from 0) in
@@ -47,18 +47,18 @@ module _ (m : Machine) (l : Language m.Step) (bytes : m.Entry → List ℕ) (ima
   abbrev rest : Rested
   rest = rest_from m l bytes image_of s f from log image
 
-  by_fault : (p : Placed) (x : Fault) → counted 0 p ≡ Faulty x → rest_placed m l bytes image_of s f log image p ≡ untouched (fault_code x) (fault_place x) log image
+  by_fault : (p : Placed) (x : Fault) → counted 0 p ≡ Err x → rest_placed m l bytes image_of s f log image p ≡ untouched (fault_code x) (fault_place x) log image
   by_fault (broken i) x e = let h : Step i ≡ x = cc in rw (← h)
   by_fault surplus x e = let h : Surplus ≡ x = cc in rw (← h)
   by_fault (placed ps) x e = clash (cc)
 
   -- a fault among the steps is answered, and nothing is written
-  pub faulty_leaves : (x : Fault) → counted_of l.kind f from ≡ Faulty x → (r : Answer) → r ≡ refused_for x → Leaves rest r log image
+  pub faulty_leaves : (x : Fault) → counted_of l.kind f from ≡ Err x → (r : Answer) → r ≡ refused_for x → Leaves rest r log image
   unfolding rest_from counted_of
   faulty_leaves x e r p = untouches (by_fault (places_from l.kind limit.steps f from 0) x e) r p
 
   -- n steps are counted: they are those that the loop reads
-  module _ (law : Lawful l) (n : ℕ) (c : counted_of l.kind f from ≡ Steps n) where
+  module _ (law : Lawful l) (n : ℕ) (c : counted_of l.kind f from ≡ Ok n) where
     abbrev steps : List m.Step
     steps = steps_from (step_at l) (size_of l) f from n
 
@@ -89,13 +89,13 @@ module _ (m : Machine) (l : Language m.Step) (bytes : m.Entry → List ℕ) (ima
 
         pub ran_leaves : length (image_of ran.state) ≤ limit.image → (log' : List ℕ) → log' ≡ puts log 0 (pieces bytes ran.log)
             → (k : ℕ) (image' : List ℕ) → Laid image 0 (image_of ran.state) k image'
-            → Leaves rest (record { place = ran.place; logged = length (pieces bytes ran.log); imaged = k; code = ran.code }) log' image'
-        ran_leaves small log' e k image' d =
+            → (r : Answer) → r ≡ record { place = ran.place; logged = length (pieces bytes ran.log); imaged = k; code = ran.code } → Leaves rest r log' image'
+        ran_leaves small log' e k image' d r told =
             let room : length (pieces bytes ran.log) ≤ length log = omega (arith, h, rw many at (replay_short m bytes limit.entry short s 0 steps)) in
             let laid = laid_whole image 0 (image_of ran.state) k image' (omega (arith, i, small)) d in
             rw whole
             (record {
-              answer = rw (laid.0, zero-add);
+              answer = told ∙ rw (laid.0, zero-add);
               log = e ∙ puts_over log (pieces bytes ran.log) room;
               image = laid.1 ∙ puts_over image (image_of ran.state) (omega (arith, i, small));
             })

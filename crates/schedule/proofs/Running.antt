@@ -21,22 +21,14 @@ use Rattle.schedule.specs.Limits as limit
 use Rattle.schedule.specs.Language.{step_at, size_of}
 use Rattle.schedule.specs.Counting.{counted_of}
 use Rattle.schedule.specs.Answers.{refused_as, refused_for, Leaves}
+use Rattle.schedule.specs.Carries.{Carries}
 use Rattle.schedule.specs.Running.{Counts, Runner, Runnable, Ended, rest_run, rest_made}
 use Rattle.schedule.specs.declared.answer.Answer.{Answer}
 use Rattle.schedule.specs.declared.front.Fault.{Fault}
-use Rattle.schedule.specs.declared.count.Counted.{Counted}
-use Rattle.schedule.specs.declared.count.Counted.TheVariants.{Faulty, Steps}
-use Rattle.schedule.proofs.Languages.{Lawful}
+use Rattle.schedule.specs.Counting.{Counted}
+use Rattle.std.specs.Prelude.{Ok, Err}
 use Rattle.schedule.proofs.LoopSteps.{counted_formed}
 use Rattle.schedule.proofs.Rests as rests
-
--- what a machine has of its own for the laws of a run: its language is lawful, a step logs little, an image is small, and an accepted step leads from a
--- state that a run may start from to another
-pub record Carries (p : Runner) : Type 0 where
-  pub lawful : Lawful p.language
-  pub short : (q : p.machine.State) (x : p.machine.Step) → length (pieces p.bytes (p.machine.logs q x)) ≤ limit.entry
-  pub small : (q : p.machine.State) → length (p.image q) ≤ limit.image
-  pub kept : (q : p.machine.State) (x : p.machine.Step) → code_of p.machine q x ≡ 0 → p.Good q → p.Good (p.machine.next q x)
 
 -- ---------- the loop
 
@@ -128,7 +120,7 @@ module _ (p : Runner) (o : Carries p) (f : List ℕ) (from n : ℕ) (q₀ : p.ma
 -- ---------- the functions around the loop
 
 -- what was counted
-pub counts : (kind : ℕ) (f : List ℕ) (from : ℕ) (c : Counted) → c ≡ counted_of kind f from → (n : ℕ) → c ≡ Steps n → Counts kind f from n
+pub counts : (kind : ℕ) (f : List ℕ) (from : ℕ) (c : Counted) → c ≡ counted_of kind f from → (n : ℕ) → c ≡ Ok n → Counts kind f from n
 counts kind f from c p n e = sym p ∙ e
 
 -- n steps take no more room than a usize tells
@@ -140,7 +132,7 @@ module _ (p : Runner) (o : Carries p) (s : p.machine.State) (f : List ℕ) (from
   abbrev Rests : Answer → List ℕ → List ℕ → Type 0
   Rests r log' image' = Leaves (rest_run p s f from log image) r log' image'
 
-  pub faulty_leaves : (c : Counted) → c ≡ counted_of p.language.kind f from → (x : Fault) → c ≡ Faulty x → (r : Answer)
+  pub faulty_leaves : (c : Counted) → c ≡ counted_of p.language.kind f from → (x : Fault) → c ≡ Err x → (r : Answer)
       → r ≡ refused_for x → Rests r log image
   faulty_leaves c q x e = rests.faulty_leaves p.machine p.language p.bytes p.image s f from log image x (sym q ∙ e)
 
@@ -157,12 +149,13 @@ module _ (p : Runner) (o : Carries p) (s : p.machine.State) (f : List ℕ) (from
 
       -- both buffers are long enough: the run's log, and the image of the state that it left
       pub ran_leaves : limit.image ≤ length image → (e : Left p.machine) → Ended p f from n s log 0 e → (k : ℕ) (image' : List ℕ)
-          → Laid image 0 (p.image e.state) k image' → Rests (record { place = e.place; logged = e.upto; imaged = k; code = e.code }) e.log image'
-      ran_leaves i e d k image' w =
+          → Laid image 0 (p.image e.state) k image'
+          → (r : Answer) → r ≡ record { place = e.place; logged = e.upto; imaged = k; code = e.code } → Rests r e.log image'
+      ran_leaves i e d k image' w r told =
           let a : Replayed p.machine = replay p.machine s 0 (steps_from (step_at p.language) (size_of p.language) f from n) in
           let b : e ≡ left p.bytes log 0 a = d.ended in
-          rw (b, zero-add)
-          (rests.ran_leaves p.machine p.language p.bytes p.image s f from log image o.lawful n c h i o.short (o.small a.state) _ refl k image' (rw b at w))
+          rw b
+          (rests.ran_leaves p.machine p.language p.bytes p.image s f from log image o.lawful n c h i o.short (o.small a.state) _ refl k image' (rw b at w) r (rw (b, zero-add) at told))
 
 -- ---------- with parameters
 

@@ -1,6 +1,8 @@
 pub mod Limits
 pub mod Widths
+pub mod Kinds
 pub mod Language
+pub mod Lawful
 pub mod Spelling
 pub mod Reading
 pub mod Front
@@ -11,3 +13,4 @@ pub mod Given
 pub mod Canonical
 pub mod Answers
 pub mod Running
+pub mod Carries

@@ -1,5 +1,5 @@
 -- What a file says: a schedule of one of the four kinds, or its one fault. And the file that says it. Assumes nothing.
-use Rattle.std.specs.Prelude.{ℕ, ◌≤◌, ◌<◌, ◌^◌, Bool, List, [], ◌∷◌, ◌++◌, map, length}
+use Rattle.std.specs.Prelude.{Ok, Err, ℕ, ◌≤◌, ◌<◌, ◌^◌, Bool, List, [], ◌∷◌, ◌++◌, map, length}
 use mir.Val.{bool_byte}
 use Rattle.rows.specs.Bytes.{big}
 use Rattle.rows.specs.Walk.{pieces}
@@ -8,7 +8,7 @@ use Rattle.schedule.specs.Widths as kind
 use Rattle.schedule.specs.Language.{Language, step_at, step_bytes, Writable}
 use Rattle.schedule.specs.Spelling.{flat, lock, counting, flag}
 use Rattle.schedule.specs.Reading.{Placed, broken, surplus, placed, places_from}
-use Rattle.schedule.specs.Front.{opened_of}
+use Rattle.schedule.specs.Front.{opened_of, Opened}
 use Rattle.schedule.specs.declared.steps.FlatStep.{FlatStep}
 use Rattle.schedule.specs.declared.steps.LockStep.{LockStep}
 use Rattle.schedule.specs.declared.steps.CountingStep.{CountingStep}
@@ -17,8 +17,6 @@ use Rattle.schedule.specs.declared.steps.Params.{Params}
 use Rattle.schedule.specs.declared.steps.Params.TheVariants.{Flat, Lock, Counting, Flag}
 use Rattle.schedule.specs.declared.front.Fault.{Fault}
 use Rattle.schedule.specs.declared.front.Fault.TheVariants.{Step, Surplus}
-use Rattle.schedule.specs.declared.front.Opened.{Opened}
-use Rattle.schedule.specs.declared.front.Opened.TheVariants.{Faulty, Open}
 
 -- a kind with its parameters, and the steps
 pub data Schedule : Type 0 where
@@ -39,12 +37,16 @@ with_steps l f make (broken k) = faulty (Step k)
 with_steps l f make surplus = faulty Surplus
 with_steps l f make (placed ps) = good (make (map (step_at l f) ps))
 
+-- behind parameters, from a place on
+abbrev pub behind_params : List ℕ → Params → ℕ → Decoded
+behind_params f (Flat n) at = with_steps flat f (of_flat n) (places_from kind.flat limit.steps f at 0)
+behind_params f (Lock n t) at = with_steps lock f (of_lock n t) (places_from kind.lock limit.steps f at 0)
+behind_params f Counting at = with_steps counting f of_counting (places_from kind.counting limit.steps f at 0)
+behind_params f (Flag n v) at = with_steps flag f (of_flag n v) (places_from kind.flag limit.steps f at 0)
+
 abbrev pub behind_front : List ℕ → Opened → Decoded
-behind_front f (Faulty fault) = faulty fault
-behind_front f (Open (Flat n) at) = with_steps flat f (of_flat n) (places_from kind.flat limit.steps f at 0)
-behind_front f (Open (Lock n t) at) = with_steps lock f (of_lock n t) (places_from kind.lock limit.steps f at 0)
-behind_front f (Open Counting at) = with_steps counting f of_counting (places_from kind.counting limit.steps f at 0)
-behind_front f (Open (Flag n v) at) = with_steps flag f (of_flag n v) (places_from kind.flag limit.steps f at 0)
+behind_front f (Err fault) = faulty fault
+behind_front f (Ok o) = behind_params f o.params o.from
 
 -- any list of bytes is a schedule, or has exactly one fault
 unfoldable pub decode : List ℕ → Decoded

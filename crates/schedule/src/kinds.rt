@@ -1,8 +1,40 @@
-// The number of each kind of machine.
-pub const FLAT: u8 = 1;
+// The kinds of machines, and the byte that each has in a file.
+ghost use Rattle.std.specs.Prelude.{◌≡◌};
+ghost use Rattle.schedule.specs.Kinds.{KindOf, number};
 
-pub const LOCK: u8 = 2;
+#[derive(Clone, Copy, PartialEq, Eq)]
+pub enum Kind {
+    Flat = 1,
+    Lock = 2,
+    Counting = 3,
+    Flag = 4,
+}
 
-pub const COUNTING: u8 = 3;
+impl Kind {
+    // The byte that a file has.
+    pub fn byte(self) -> u8
+        ensures { result ≡ number self }
+    {
+        self as u8
+    }
+}
 
-pub const FLAG: u8 = 4;
+// A byte that no kind has.
+#[derive(Clone, Copy, PartialEq, Eq)]
+pub struct UnknownKind;
+
+impl TryFrom<u8> for Kind {
+    type Error = UnknownKind;
+
+    ghost try_from_gives = { KindOf };
+
+    fn try_from(byte: u8) -> Result<Kind, UnknownKind> {
+        match byte {
+            1 => Ok(Kind::Flat),
+            2 => Ok(Kind::Lock),
+            3 => Ok(Kind::Counting),
+            4 => Ok(Kind::Flag),
+            _ => Err(UnknownKind),
+        }
+    }
+}

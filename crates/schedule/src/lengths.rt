@@ -1,5 +1,5 @@
 // The one table of step lengths, and how far the step at a place of a file reaches.
-ghost use Rattle.std.specs.Prelude.{◌≡◌};
+ghost use Rattle.std.specs.Prelude.{◌≡◌, ℕ};
 ghost use Rattle.schedule.specs.Widths.{length_of, RowOf};
 ghost use Rattle.schedule.specs.Reading.{measured_at};
 
@@ -35,53 +35,63 @@ const LENGTHS: [[u8; TAGS]; KINDS] = [
 pub fn row_of(kind: u8) -> [u8; TAGS]
     ensures { RowOf kind result }
 {
-    let row = kind as usize;
+    let row = usize::from(kind);
     if row < KINDS {
-        return LENGTHS[row];
+        LENGTHS[row]
+    } else {
+        LENGTHS[0]
     }
-    LENGTHS[0]
 }
 
 // The bytes after a step's length byte, 0 where there is no such step.
 pub fn length_of(kind: u8, tag: u8) -> u8
     ensures { result ≡ length_of kind tag }
 {
-    let row = kind as usize;
-    let column = tag as usize;
-    if row < KINDS {
-        if column < TAGS {
-            return LENGTHS[row][column];
-        }
+    let row = usize::from(kind);
+    let column = usize::from(tag);
+    if KINDS <= row {
+        return 0;
     }
-    0
+    if column < TAGS {
+        LENGTHS[row][column]
+    } else {
+        0
+    }
 }
 
-// What stands at a place: nothing more, a step that is none, or a step and the place after it.
-#[derive(Clone, Copy)]
-pub enum Measured {
-    End,
-    Broken,
-    Whole { next: usize },
-}
+// What stands at a place is no step.
+#[derive(Clone, Copy, PartialEq, Eq)]
+pub struct Broken;
 
-pub fn measure(kind: u8, file: &[u8], at: usize) -> Measured
-    ensures { result ≡ measured_at kind file.now at }
+// The place after the step that stands at a place, or none where nothing more stands there, by the row of the file's kind.
+pub(super) fn step_in(row: [u8; TAGS], file: &[u8], at: usize) -> Result<Option<usize>, Broken>
+    ensures { (kind : ℕ) → RowOf kind row → result ≡ measured_at kind file.now at }
 {
     if file.len() <= at {
-        return Measured::End;
+        return Ok(None);
     }
-    let n = file[at];
+    let n = usize::from(file[at]);
     let b = at + 1;
     if n == 0 {
-        return Measured::Broken;
+        return Err(Broken);
     }
-    let size = n as usize;
-    if file.len() - b < size {
-        return Measured::Broken;
+    if file.len() - b < n {
+        return Err(Broken);
     }
-    if length_of(kind, file[b]) == n {
-        Measured::Whole { next: b + size }
-    } else {
-        Measured::Broken
+    let tag = usize::from(file[b]);
+    if TAGS <= tag {
+        return Err(Broken);
     }
+    let own = usize::from(row[tag]);
+    if own != n {
+        return Err(Broken);
+    }
+    Ok(Some(b + n))
+}
+
+// The same by the kind itself.
+pub fn measure(kind: u8, file: &[u8], at: usize) -> Result<Option<usize>, Broken>
+    ensures { result ≡ measured_at kind file.now at }
+{
+    step_in(row_of(kind), file, at)
 }

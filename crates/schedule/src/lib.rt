@@ -9,3 +9,4 @@ pub mod front; // a file up to its first step: codes 1 to 5
 pub mod count; // how many steps follow: codes 6 and 7
 pub mod read; // the step at a place
 pub mod answer; // the answer to a whole file
+pub mod stepped; // the single step and the replay of a file, once for every machine

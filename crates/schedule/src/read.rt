@@ -1,225 +1,197 @@
 // The step at a place of a file: of a known kind, or of the kind asked for with the place after it.
-ghost use Rattle.std.specs.Prelude.{◌≡◌, ◌≤◌, length};
-ghost use Rattle.schedule.specs.Language.{step_at, tagged_at};
+ghost use Rattle.std.specs.Prelude.{◌≡◌};
+ghost use Rattle.schedule.specs.Language.{Language, step_at, size_of, tagged_at};
 ghost use Rattle.schedule.specs.Spelling.{flat, lock, counting, flag};
-ghost use Rattle.schedule.specs.Finding.{found_at};
+ghost use Rattle.schedule.specs.Finding.{any_at, found_at};
 
-use super::lengths::Measured;
+use super::kinds::Kind;
+use super::lengths;
+use super::lengths::Broken;
 use super::steps::{CountingStep, FlagStep, FlatStep, LockStep, Step};
-use super::{kinds, lengths};
 
-// The step whose length byte stands at a place. Nothing is asked of the place: a number that the file does not have is read as 0, and an
-// unknown tag as some step. What was measured whole is read as it stands. One test of the place serves the tag, and the tags are told apart
-// in groups of at most three, which costs less than a jump to one of many places.
-pub fn flat_step(file: &[u8], at: usize) -> FlatStep
-    ensures { result ≡ step_at flat file.now at }
+// The steps of one kind, as they are written.
+pub trait Spelled: Copy {
+    ghost language: { Language Self };
+
+    // The step of a tag, from the bytes behind it. Nothing is asked of them: a number that is not there is read as 0, and an unknown tag as some step.
+    fn tagged(tag: u8, numbers: &[u8]) -> Self
+        ensures { result ≡ tagged_at language numbers.now tag 0 };
+
+    // How many bytes of a file the step takes, its length byte among them.
+    fn size(self) -> usize
+        ensures { result ≡ size_of language self };
+}
+
+// The step whose length byte stands at a place. Nothing is asked of the place; what was measured whole is read as it stands.
+pub fn step_at<S: Spelled>(file: &[u8], at: usize) -> S
+    ensures { result ≡ step_at S.language file.now at }
 {
     if file.len() < 2 {
-        return FlatStep::CombinerGoToCollecting;
+        return S::tagged(0, &[]);
     }
     if file.len() - 2 < at {
-        return FlatStep::CombinerGoToCollecting;
+        return S::tagged(0, &[]);
     }
     let p = at + 1;
-    let tag = file[p];
-    let a = p + 1;
-    flat_tagged(file, tag, a)
+    S::tagged(file[p], &file[p + 1..])
 }
 
-// The step of a tag whose numbers stand at a place.
-fn flat_tagged(file: &[u8], tag: u8, a: usize) -> FlatStep
-    requires { a ≤ length file.now }
-    ensures { result ≡ tagged_at flat file.now tag a }
-{
-    if tag < 3 {
-        if tag == 1 {
-            let j = rows::get1(file, a);
-            let b = a + 1;
-            let rid = rows::get4(file, b);
-            let c = b + 4;
-            let req = rows::get4(file, c);
-            return FlatStep::ClientSend { j, rid, req };
+impl Spelled for FlatStep {
+    ghost language = { flat };
+
+    #[tactic(auto, unfolding(crate::specs::Widths::widths, crate::specs::Widths::widths_of))]
+    fn tagged(tag: u8, numbers: &[u8]) -> FlatStep {
+        match tag {
+            1 => FlatStep::ClientSend {
+                j: rows::get(numbers, 0),
+                rid: rows::get(numbers, 1),
+                req: rows::get(numbers, 5),
+            },
+            2 => FlatStep::ClientRecv {
+                j: rows::get(numbers, 0),
+            },
+            3 => FlatStep::CombinerRecv,
+            4 => FlatStep::CombinerSkip,
+            5 => FlatStep::CombinerGoToResponding,
+            6 => FlatStep::CombinerSend {
+                rid: rows::get(numbers, 0),
+                resp: rows::get(numbers, 4),
+            },
+            7 => FlatStep::CombinerSendSkip,
+            _ => FlatStep::CombinerGoToCollecting,
         }
-        if tag == 2 {
-            let j = rows::get1(file, a);
-            return FlatStep::ClientRecv { j };
+    }
+
+    #[tactic(auto, unfolding(crate::specs::Widths::widths, crate::specs::Widths::widths_of))]
+    fn size(self) -> usize {
+        match self {
+            FlatStep::ClientSend { .. } => lengths::TAG_WHO_WHAT_WHAT,
+            FlatStep::ClientRecv { .. } => lengths::TAG_WHO,
+            FlatStep::CombinerSend { .. } => lengths::TAG_WHAT_WHAT,
+            _ => lengths::TAG,
         }
-        return FlatStep::CombinerGoToCollecting;
     }
-    if tag < 6 {
-        if tag == 3 {
-            return FlatStep::CombinerRecv;
+}
+
+impl Spelled for LockStep {
+    ghost language = { lock };
+
+    #[tactic(auto, unfolding(crate::specs::Widths::widths, crate::specs::Widths::widths_of))]
+    fn tagged(tag: u8, numbers: &[u8]) -> LockStep {
+        match tag {
+            2 => LockStep::ExcCheckCount,
+            3 => LockStep::ExcFinish,
+            4 => LockStep::ExcRelease {
+                t: rows::get(numbers, 0),
+            },
+            5 => LockStep::SharedStart {
+                r: rows::get(numbers, 0),
+            },
+            6 => LockStep::SharedFinish {
+                r: rows::get(numbers, 0),
+            },
+            7 => LockStep::SharedRelease {
+                r: rows::get(numbers, 0),
+                t: rows::get(numbers, 1),
+            },
+            _ => LockStep::ExcStart,
         }
-        if tag == 4 {
-            return FlatStep::CombinerSkip;
+    }
+
+    #[tactic(auto, unfolding(crate::specs::Widths::widths, crate::specs::Widths::widths_of))]
+    fn size(self) -> usize {
+        match self {
+            LockStep::ExcRelease { .. } => lengths::TAG_WHAT,
+            LockStep::SharedStart { .. } => lengths::TAG_WHO,
+            LockStep::SharedFinish { .. } => lengths::TAG_WHO,
+            LockStep::SharedRelease { .. } => lengths::TAG_WHO_WHAT,
+            _ => lengths::TAG,
         }
-        return FlatStep::CombinerGoToResponding;
     }
-    if tag == 6 {
-        let rid = rows::get4(file, a);
-        let b = a + 4;
-        let resp = rows::get4(file, b);
-        return FlatStep::CombinerSend { rid, resp };
-    }
-    if tag == 7 {
-        return FlatStep::CombinerSendSkip;
-    }
-    FlatStep::CombinerGoToCollecting
 }
 
-pub fn lock_step(file: &[u8], at: usize) -> LockStep
-    ensures { result ≡ step_at lock file.now at }
-{
-    if file.len() < 2 {
-        return LockStep::ExcStart;
-    }
-    if file.len() - 2 < at {
-        return LockStep::ExcStart;
-    }
-    let p = at + 1;
-    let tag = file[p];
-    let a = p + 1;
-    lock_tagged(file, tag, a)
-}
+impl Spelled for CountingStep {
+    ghost language = { counting };
 
-fn lock_tagged(file: &[u8], tag: u8, a: usize) -> LockStep
-    requires { a ≤ length file.now }
-    ensures { result ≡ tagged_at lock file.now tag a }
-{
-    if 4 < tag {
-        if tag == 5 {
-            let r = rows::get1(file, a);
-            return LockStep::SharedStart { r };
+    #[tactic(auto, unfolding(crate::specs::Widths::widths, crate::specs::Widths::widths_of))]
+    fn tagged(tag: u8, numbers: &[u8]) -> CountingStep {
+        match tag {
+            1 => CountingStep::WriteableToReadable {
+                t: rows::get(numbers, 0),
+            },
+            2 => CountingStep::ReadableToWriteable,
+            4 => CountingStep::DeleteRef {
+                t: rows::get(numbers, 0),
+            },
+            _ => CountingStep::NewRef,
         }
-        if tag == 6 {
-            let r = rows::get1(file, a);
-            return LockStep::SharedFinish { r };
+    }
+
+    #[tactic(auto, unfolding(crate::specs::Widths::widths, crate::specs::Widths::widths_of))]
+    fn size(self) -> usize {
+        match self {
+            CountingStep::WriteableToReadable { .. } => lengths::TAG_WHAT,
+            CountingStep::DeleteRef { .. } => lengths::TAG_WHAT,
+            _ => lengths::TAG,
         }
-        if tag == 7 {
-            let r = rows::get1(file, a);
-            let b = a + 1;
-            let t = rows::get4(file, b);
-            return LockStep::SharedRelease { r, t };
+    }
+}
+
+impl Spelled for FlagStep {
+    ghost language = { flag };
+
+    #[tactic(auto, unfolding(crate::specs::Widths::widths, crate::specs::Widths::widths_of))]
+    fn tagged(tag: u8, numbers: &[u8]) -> FlagStep {
+        match tag {
+            1 => FlagStep::Begin {
+                k: rows::get(numbers, 0),
+            },
+            2 => FlagStep::Move {
+                k: rows::get(numbers, 0),
+            },
+            3 => FlagStep::Read {
+                k: rows::get(numbers, 0),
+            },
+            _ => FlagStep::Begin { k: 0 },
         }
-        return LockStep::ExcStart;
     }
-    if tag == 2 {
-        return LockStep::ExcCheckCount;
+
+    #[tactic(auto, unfolding(crate::specs::Widths::widths, crate::specs::Widths::widths_of))]
+    fn size(self) -> usize {
+        match self {
+            _ => lengths::TAG_WHO,
+        }
     }
-    if tag == 3 {
-        return LockStep::ExcFinish;
-    }
-    if tag == 4 {
-        let t = rows::get4(file, a);
-        return LockStep::ExcRelease { t };
-    }
-    LockStep::ExcStart
 }
 
-pub fn counting_step(file: &[u8], at: usize) -> CountingStep
-    ensures { result ≡ step_at counting file.now at }
-{
-    if file.len() < 2 {
-        return CountingStep::NewRef;
-    }
-    if file.len() - 2 < at {
-        return CountingStep::NewRef;
-    }
-    let p = at + 1;
-    let tag = file[p];
-    let a = p + 1;
-    counting_tagged(file, tag, a)
-}
-
-fn counting_tagged(file: &[u8], tag: u8, a: usize) -> CountingStep
-    requires { a ≤ length file.now }
-    ensures { result ≡ tagged_at counting file.now tag a }
-{
-    if tag == 1 {
-        let t = rows::get4(file, a);
-        return CountingStep::WriteableToReadable { t };
-    }
-    if tag == 2 {
-        return CountingStep::ReadableToWriteable;
-    }
-    if tag == 4 {
-        let t = rows::get4(file, a);
-        return CountingStep::DeleteRef { t };
-    }
-    CountingStep::NewRef
-}
-
-pub fn flag_step(file: &[u8], at: usize) -> FlagStep
-    ensures { result ≡ step_at flag file.now at }
-{
-    if file.len() < 2 {
-        return FlagStep::Begin { k: 0 };
-    }
-    if file.len() - 2 < at {
-        return FlagStep::Begin { k: 0 };
-    }
-    let p = at + 1;
-    let tag = file[p];
-    let a = p + 1;
-    flag_tagged(file, tag, a)
-}
-
-fn flag_tagged(file: &[u8], tag: u8, a: usize) -> FlagStep
-    requires { a ≤ length file.now }
-    ensures { result ≡ tagged_at flag file.now tag a }
-{
-    if tag == 1 {
-        let k = rows::get1(file, a);
-        return FlagStep::Begin { k };
-    }
-    if tag == 2 {
-        let k = rows::get1(file, a);
-        return FlagStep::Move { k };
-    }
-    if tag == 3 {
-        let k = rows::get1(file, a);
-        return FlagStep::Read { k };
-    }
-    FlagStep::Begin { k: 0 }
-}
-
-// What stands at a place of a file of a kind.
+// A step that stands in a file, and the place after it.
 #[derive(Clone, Copy)]
-pub enum Found {
-    End,
-    Broken,
-    Whole { step: Step, next: usize },
+pub struct Found {
+    pub step: Step,
+    pub next: usize,
 }
 
-pub fn read(kind: u8, file: &[u8], at: usize) -> Found
+// What stands at a place of a file of a kind, or none where nothing more does.
+#[tactic(auto, unfolding(crate::specs::Finding::found_at))]
+pub fn read(kind: u8, file: &[u8], at: usize) -> Result<Option<Found>, Broken>
     ensures { result ≡ found_at kind file.now at }
 {
-    match lengths::measure(kind, file, at) {
-        Measured::End => Found::End,
-        Measured::Broken => Found::Broken,
-        Measured::Whole { next } => {
-            if kind == kinds::FLAT {
-                return Found::Whole {
-                    step: Step::Flat(flat_step(file, at)),
-                    next,
-                };
-            }
-            if kind == kinds::LOCK {
-                return Found::Whole {
-                    step: Step::Lock(lock_step(file, at)),
-                    next,
-                };
-            }
-            if kind == kinds::COUNTING {
-                return Found::Whole {
-                    step: Step::Counting(counting_step(file, at)),
-                    next,
-                };
-            }
-            Found::Whole {
-                step: Step::Flag(flag_step(file, at)),
-                next,
-            }
-        }
+    let Some(next) = lengths::measure(kind, file, at)? else {
+        return Ok(None);
+    };
+    let step = any_at(kind, file, at);
+    Ok(Some(Found { step, next }))
+}
+
+// The step that stands there, as a kind's steps are written; no kind has a whole step but the four.
+fn any_at(kind: u8, file: &[u8], at: usize) -> Step
+    ensures { result ≡ any_at kind file.now at }
+{
+    match Kind::try_from(kind) {
+        Ok(Kind::Flat) => Step::Flat(step_at(file, at)),
+        Ok(Kind::Lock) => Step::Lock(step_at(file, at)),
+        Ok(Kind::Counting) => Step::Counting(step_at(file, at)),
+        Ok(Kind::Flag) => Step::Flag(step_at(file, at)),
+        Err(_) => Step::Flag(step_at(file, at)),
     }
 }

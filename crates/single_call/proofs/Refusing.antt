@@ -7,14 +7,12 @@ use borrow.Author.Tests.{ne_eqb}
 use lib.Dec.{eqb}
 use lib.ListN.{length}
 use Rattle.machine.specs.Codes as code
-use Rattle.machine.specs.Machine.{Machine}
-use Rattle.machine.specs.Single.{Single}
 use Rattle.schedule.specs.Widths as kinds
 use Rattle.schedule.specs.Reading.{measured_at}
 use Rattle.schedule.specs.Finding.{found_at}
-use Rattle.single_call.specs.Call.{asked_by, Stepped, unchanged, RawStepper, stepped_as, single_from, stepped, flat_raw, lock_raw, counting_raw, flag_raw, stepped_by}
-use Rattle.single_call.specs.declared.Asked.{Asked}
-use Rattle.single_call.specs.declared.Asked.TheVariants.{Malformed, One}
+use Rattle.schedule.specs.declared.steps.Step.{Step}
+use Rattle.std.specs.Prelude.{Option, Some, None}
+use Rattle.single_call.specs.Call.{asked_by, Stepped, unchanged, Outcome, RawStepper, stepped_as, stepped, flat_raw, lock_raw, counting_raw, flag_raw, stepped_by}
 
 -- a refusal keeps the state
 pub record Keeps (raw : List ℕ) (o : Stepped) : Type 0 where
@@ -29,25 +27,25 @@ either_keeps true raw o o' k l = k
 either_keeps false raw o o' k l = l
 
 -- any machine's single step
-module _ {m : Machine} (w : RawStepper m) (raw : List ℕ) where
-  answer_keeps : (o : Single m) → Keeps raw (stepped_as w raw o)
+module _ {S X : Type 0} (w : RawStepper S X) (raw : List ℕ) where
+  answer_keeps : (o : Outcome S) → Keeps raw (stepped_as w raw o)
   answer_keeps o = record { kept = λ h. rw (ne_eqb o.code 0 h) }
 
-  step_keeps : (x : w.stepper.Any) (log : List ℕ) → Keeps raw (stepped w raw x log)
+  step_keeps : (x : X) (log : List ℕ) → Keeps raw (stepped w raw x log)
   step_keeps x log =
-      either_keeps (eqb (length raw) w.long) raw (stepped_as w raw (single_from w raw x log)) (unchanged code.malformed raw)
-      (answer_keeps (single_from w raw x log)) (malformed_keeps raw)
+      either_keeps (eqb (length raw) w.long) raw (stepped_as w raw (w.single (w.from raw) x log)) (unchanged code.malformed raw)
+      (answer_keeps (w.single (w.from raw) x log)) (malformed_keeps raw)
 
 -- so a refused call keeps every byte of the state
-pub call_keeps : (kind : ℕ) (raw : List ℕ) (q : Asked) (log : List ℕ) → Keeps raw (stepped_by kind raw q log)
-call_keeps kind raw Malformed log = malformed_keeps raw
-call_keeps kind raw (One x) log =
+pub call_keeps : (kind : ℕ) (raw : List ℕ) (q : Option Step) (log : List ℕ) → Keeps raw (stepped_by kind raw q log)
+call_keeps kind raw None log = malformed_keeps raw
+call_keeps kind raw (Some x) log =
     either_keeps (eqb kind kinds.flat) raw (stepped flat_raw raw x log) _ (step_keeps flat_raw raw x log)
     (either_keeps (eqb kind kinds.lock) raw (stepped lock_raw raw x log) _ (step_keeps lock_raw raw x log)
     (either_keeps (eqb kind kinds.counting) raw (stepped counting_raw raw x log) _ (step_keeps counting_raw raw x log)
     (either_keeps (eqb kind kinds.flag) raw (stepped flag_raw raw x log) (unchanged code.malformed raw) (step_keeps flag_raw raw x log) (malformed_keeps raw))))
 
 -- an empty step is none
-pub empty_step : asked_by [] ≡ Malformed
+pub empty_step : asked_by [] ≡ None
 unfolding found_at measured_at
 empty_step = refl

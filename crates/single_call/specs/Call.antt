@@ -1,36 +1,33 @@
 -- What the single step on bytes leaves: the answer, the state's bytes, the log's bytes. Assumes nothing.
-use Rattle.std.specs.Prelude.{◌≡◌, cond, List, [], ℕ, eqb, ltb, length}
+use Rattle.std.specs.Prelude.{◌≡◌, cond, List, [], ℕ, eqb, ltb, length, Option, Some, None, Result, Ok, Err}
 use Rattle.rows.specs.Bytes.{big}
 use Rattle.rows.specs.Stores.{over}
-use Rattle.rows.specs.Walk.{pieces}
 use Rattle.machine.specs.Codes as code
 use Rattle.machine.specs.Machine.{Machine}
-use Rattle.machine.specs.Single.{Single, single, Stepper}
+use Rattle.machine.specs.Refusals.{verdict_code}
+use Rattle.machine.specs.Single.{single, Stepper, InNumbers, told, bytes_logged, written}
+use Rattle.machine.specs.declared.refusal.Refusal.{Refusal}
 use Rattle.schedule.specs.Widths as kinds
-use Rattle.schedule.specs.Finding.{found_at}
-use Rattle.schedule.specs.declared.read.Found.{Found}
-use Rattle.schedule.specs.declared.read.Found.TheVariants.{End, Broken, Whole}
-use Rattle.counting.specs.Counting.{counting}
+use Rattle.schedule.specs.Finding.{Found, found_at}
+use Rattle.schedule.specs.declared.steps.Step.{Step}
 use Rattle.counting.specs.Single as countingSingle
-use Rattle.lock.specs.Lock.{lock}
+use Rattle.counting.specs.declared.state.State as countingState
 use Rattle.lock.specs.Single as lockSingle
-use Rattle.flag.specs.Flag.{flag}
+use Rattle.lock.specs.declared.state.State as lockState
 use Rattle.flag.specs.Single as flagSingle
-use Rattle.flat.specs.Flat.{flat}
+use Rattle.flag.specs.declared.state.State as flagState
 use Rattle.flat.specs.Single as flatSingle
+use Rattle.flat.specs.declared.state.State as flatState
 use Rattle.raw.specs.Raw.{byte_at, counting_long, counting_from, counting_bytes, lock_long, lock_from, lock_bytes, flag_long, flag_from, flag_bytes, flat_long, flat_from, flat_bytes}
-use Rattle.single_call.specs.declared.Called.{Called}
-use Rattle.single_call.specs.declared.Asked.{Asked}
-use Rattle.single_call.specs.declared.Asked.TheVariants.{Malformed, One}
 
 -- ---------- the step: its kind's byte, then one whole step of that kind, which ends where the bytes end
 
-abbrev pub alone : ℕ → Found → Asked
-alone n End = Malformed
-alone n Broken = Malformed
-alone n (Whole x next) = cond (eqb next n) (One x) Malformed
+abbrev pub alone : ℕ → Found → Option Step
+alone n (Ok None) = None
+alone n (Err broken) = None
+alone n (Ok (Some found)) = cond (eqb found.next n) (Some found.step) None
 
-abbrev pub asked_by : List ℕ → Asked
+abbrev pub asked_by : List ℕ → Option Step
 asked_by step = alone (length step) (found_at (byte_at step 0) step 1)
 
 -- ---------- what a call does to the state's bytes
@@ -44,51 +41,66 @@ pub record Stepped : Type 0 where
 abbrev pub unchanged : ℕ → List ℕ → Stepped
 unchanged c raw = record { code = c; state = raw; entry = [] }
 
+-- what a machine's single step answers, its entries as bytes
+pub record Outcome (S : Type 0) : Type 0 where
+  pub code : ℕ
+  pub state : S
+  pub entry : List ℕ
+
+abbrev pub outcome : {m : Machine} (p : Stepper m) → m.State → p.Any → List ℕ → Outcome m.State
+outcome {m} p s x log = let o = single m p.sound p.room s (p.own x) log in record { code = o.code; state = o.state; entry = written p o }
+
 -- a machine's single step with its raw states: how long one is, the state that it stands for, and a state's bytes
-pub record RawStepper (m : Machine) : Type 1 where
-  pub stepper : Stepper m
+pub record RawStepper (S X : Type 0) : Type 0 where
   pub long : ℕ
-  pub from : List ℕ → m.State
-  pub bytes : m.State → List ℕ
+  pub from : List ℕ → S
+  pub bytes : S → List ℕ
+  pub single : S → X → List ℕ → Outcome S
 
-module _ {m : Machine} (w : RawStepper m) where
+module _ {S X : Type 0} (w : RawStepper S X) where
+  -- a function's answer r, told in numbers, and the log l' are those of the single step
+  pub record Answers (s : S) (x : X) (l : List ℕ) (r : InNumbers S) (l' : List ℕ) : Type 0 where
+    pub answer : r ≡ told (w.single s x l).state (length (w.single s x l).entry) (w.single s x l).code
+    pub log : l' ≡ over (w.single s x l).entry l
+
   -- a machine's own answer: the bytes of the state after where it accepted, else those that were there
-  abbrev pub stepped_as : List ℕ → Single m → Stepped
-  stepped_as raw o = record { code = o.code; state = cond (eqb o.code 0) (w.bytes o.state) raw; entry = pieces w.stepper.bytes o.wrote }
+  abbrev pub stepped_as : List ℕ → Outcome S → Stepped
+  stepped_as raw o = record { code = o.code; state = cond (eqb o.code 0) (w.bytes o.state) raw; entry = o.entry }
 
-  -- the single step on the state that the bytes stand for
-  abbrev pub single_from : List ℕ → w.stepper.Any → List ℕ → Single m
-  single_from raw x log = single m w.stepper.sound w.stepper.room (w.from raw) (w.stepper.own x) log
+  -- the single step on the state that the bytes stand for; bytes of another length are no state of the kind
+  abbrev pub stepped : List ℕ → X → List ℕ → Stepped
+  stepped raw x log = cond (eqb (length raw) w.long) (stepped_as raw (w.single (w.from raw) x log)) (unchanged code.malformed raw)
 
-  -- bytes of another length are no state of the kind
-  abbrev pub stepped : List ℕ → w.stepper.Any → List ℕ → Stepped
-  stepped raw x log = cond (eqb (length raw) w.long) (stepped_as raw (single_from raw x log)) (unchanged code.malformed raw)
+abbrev pub flat_raw : RawStepper flatState.State Step
+flat_raw = record { long = flat_long; from = flat_from; bytes = flat_bytes; single = outcome flatSingle.stepper }
 
-abbrev pub flat_raw : RawStepper flat
-flat_raw = record { stepper = flatSingle.stepper; long = flat_long; from = flat_from; bytes = flat_bytes }
+abbrev pub lock_raw : RawStepper lockState.State Step
+lock_raw = record { long = lock_long; from = lock_from; bytes = lock_bytes; single = outcome lockSingle.stepper }
 
-abbrev pub lock_raw : RawStepper lock
-lock_raw = record { stepper = lockSingle.stepper; long = lock_long; from = lock_from; bytes = lock_bytes }
+abbrev pub counting_raw : RawStepper countingState.State Step
+counting_raw = record { long = counting_long; from = counting_from; bytes = counting_bytes; single = outcome countingSingle.stepper }
 
-abbrev pub counting_raw : RawStepper counting
-counting_raw = record { stepper = countingSingle.stepper; long = counting_long; from = counting_from; bytes = counting_bytes }
-
-abbrev pub flag_raw : RawStepper flag
-flag_raw = record { stepper = flagSingle.stepper; long = flag_long; from = flag_from; bytes = flag_bytes }
+abbrev pub flag_raw : RawStepper flagState.State Step
+flag_raw = record { long = flag_long; from = flag_from; bytes = flag_bytes; single = outcome flagSingle.stepper }
 
 -- a kind, a state, a step or none, a log buffer
-abbrev pub stepped_by : ℕ → List ℕ → Asked → List ℕ → Stepped
-stepped_by kind raw Malformed log = unchanged code.malformed raw
-stepped_by kind raw (One x) log =
+abbrev pub stepped_by : ℕ → List ℕ → Option Step → List ℕ → Stepped
+stepped_by kind raw None log = unchanged code.malformed raw
+stepped_by kind raw (Some x) log =
     cond (eqb kind kinds.flat) (stepped flat_raw raw x log)
     (cond (eqb kind kinds.lock) (stepped lock_raw raw x log)
     (cond (eqb kind kinds.counting) (stepped counting_raw raw x log)
     (cond (eqb kind kinds.flag) (stepped flag_raw raw x log) (unchanged code.malformed raw))))
 
--- ---------- the promise: the answer, and both buffers at exit
+-- ---------- the promise: the answer in numbers, and both buffers at exit
 
-abbrev pub unlogged : ℕ → Called
-unlogged c = record { logged = 0; code = c }
+pub record Called : Type 0 where
+  pub logged : ℕ
+  pub code : ℕ
+
+-- a refusal logs nothing
+abbrev pub called : Result ℕ Refusal → Called
+called r = record { logged = bytes_logged r; code = verdict_code r }
 
 pub record StepLeaves (o : Stepped) (log : List ℕ) (r : Called) (raw' log' : List ℕ) : Type 0 where
   pub answer : r ≡ record { logged = length o.entry; code = o.code }

@@ -3,7 +3,7 @@
 
 ghost use Rattle.single_call.specs.Call.{exported, ExportLeaves};
 
-use machine::codes;
+use machine::refusal::{self, Refusal};
 
 // The single step under its plain name: the code is answered, and `figures` gets the entry's length, four bytes, big-endian. With less room than
 // that nothing is done and the answer is 8.
@@ -18,9 +18,9 @@ pub extern "C" fn ladlecomet_single(
     ensures { ExportLeaves (exported kind state.old step.now log.old figures.old) result state.new log.new figures.new }
 {
     if figures.len() < 4 {
-        return codes::ROOM;
+        return Refusal::Room.code();
     }
-    let c = single_call::single_call(kind, state, step, log);
-    rows::put_last4(figures, 0, c.logged);
-    c.code
+    let answer = single_call::single_call(kind, state, step, log);
+    rows::put_last4(figures, 0, answer.unwrap_or(0));
+    refusal::code_of(answer.map(|_| ()))
 }

@@ -1,17 +1,9 @@
--- `flat_run::rest` meets its contract: bad parameters and a fault are answered as they are, and else the steps are replayed. Assumes nothing.
-use Rattle.schedule.proofs.Running.{counts, faulty_leaves}
-use Rattle.flat_run.specs.Run.{runner}
-use Rattle.flat_run.proofs.Carried.{carries, fresh_good, fresh_refused, fresh_leaves}
+-- `flat_run::rest` meets its contract: bad parameters are answered as they are, and else the steps are replayed. Assumes nothing.
+use Rattle.flat_run.proofs.Carried.{fresh_refused, fresh_leaves}
 use Rattle.flat_run.proofs.rest.Goals as goal
 
-pub returns-then-made-ne0 : goal.returns-then-made-ne0
-returns-then-made-ne0 c = search fresh_refused
+pub returns-in-Ok : goal.returns-in-Ok
+returns-in-Ok c = search fresh_leaves
 
-pub replayed-requires : goal.replayed-requires
-replayed-requires c = search (counts, fresh_good)
-
-pub returns-in-Faulty : goal.returns-in-Faulty
-returns-in-Faulty c = search (fresh_leaves, faulty_leaves runner carries)
-
-pub returns-in-Steps : goal.returns-in-Steps
-returns-in-Steps c = search fresh_leaves
+pub returns-in-Err : goal.returns-in-Err
+returns-in-Err c = search fresh_refused

@@ -2,8 +2,8 @@
 use Rattle.replayer.proofs.Behind.{faulty_answered, open_answered}
 use Rattle.replayer.proofs.replay.Goals as goal
 
-pub returns-in-Faulty : goal.returns-in-Faulty
-returns-in-Faulty c = search faulty_answered
+pub returns-in-Err : goal.returns-in-Err
+returns-in-Err c = search faulty_answered
 
-pub returns-in-Open : goal.returns-in-Open
-returns-in-Open c = search open_answered
+pub returns-in-Ok : goal.returns-in-Ok
+returns-in-Ok c = search open_answered

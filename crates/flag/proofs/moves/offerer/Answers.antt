@@ -1,16 +1,14 @@
--- `flag::moves::offerer` meets its contract: no thread passed by the loop offers, and what is left of the row decides. Assumes nothing.
-use borrow.Author.Rules.{rules}
-use Rattle.flag.proofs.Looking.{looking_begins, looking_stops, looking_more, looking_ends}
+-- `flag::moves::offerer` meets its contract: `position` finds the first place that offers, and else all are counted. Assumes nothing.
+use Rattle.std.proofs.Common.{rules, tests, ◌≡◌, length}
+use Rattle.std.proofs.lemmas.Iterator.{YieldsList-from_slice}
+use Rattle.std.proofs.lemmas.Iterator.Search.{position_from_yields_List}
+use Rattle.flag.specs.Sound.{at_second}
+use Rattle.flag.proofs.Walking.{first_offer}
 use Rattle.flag.proofs.moves.offerer.Goals as goal
 
-pub loop-i-init : goal.loop-i-init
-loop-i-init c = looking_begins _ (search rules)
-
-pub returns-then-places-i-eq5 : goal.returns-then-places-i-eq5
-returns-then-places-i-eq5 c = search looking_stops
-
-pub loop-i-preserved : goal.loop-i-preserved
-loop-i-preserved c = search looking_more
-
 pub returns : goal.returns
-returns c = search looking_ends
+returns c =
+    let long : length c.args.places ≡ 8 = search rules in
+    let first = position_from_yields_List at_second _ _ c.position-first.result c.position-first.ensures.ran (YieldsList-from_slice c.args.places (cc))
+    (λ x b q k. search (rules, tests)) in
+    rw (c.unwrap_or.ensures, ← long) (first_offer c.args.places c.position-first.result first)

@@ -15,8 +15,8 @@ overflow_add-sixes c = search (rules, six_fits)
 pub loop-i-preserved : goal.loop-i-preserved
 loop-i-preserved c = search walking_more
 
-pub returns-in-loop-i : goal.returns-in-loop-i
-returns-in-loop-i c = search walking_stops
+pub returns-then-not-place_sound : goal.returns-then-not-place_sound
+returns-then-not-place_sound c = search walking_stops
 
 pub handshake-requires : goal.handshake-requires
 handshake-requires c = search walking_few

@@ -1,11 +1,6 @@
 -- `flag::sound::places_sound` meets its contract: what is left of the row decides, and the counts go on with it. Assumes nothing.
-use Prim.Native.Nat.{◌-◌}
-use Rattle.schedule.specs.Limits as limit
 use Rattle.flag.proofs.Walking.{Walking}
 use Rattle.flag.proofs.sound.places_sound.Given as goal
 
 abbrev pub invariant-loop-i : goal.invariant-loop-i
-invariant-loop-i l = Walking l.s l.i l.fives l.sixes
-
-abbrev pub decreases-loop-i : goal.decreases-loop-i
-decreases-loop-i l = limit.threads - l.i
+invariant-loop-i l = Walking l.fn.s l.i l.fives l.sixes

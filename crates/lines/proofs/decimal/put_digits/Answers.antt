@@ -1,4 +1,4 @@
--- `lines::decimal::put_digits` meets its contract: the loop's invariant says that the digits left, stored, end as all of them; the measure is how many are left. Assumes nothing.
+-- `lines::decimal::put_digits` meets its contract: the loop's invariant says that the digits left, stored, end as all of them. Assumes nothing.
 use borrow.Author.Rules.{rules}
 use Rattle.lines.proofs.Spelling.{spelling_begins, spelling_more, spelling_ends}
 use Rattle.lines.proofs.decimal.put_digits.Goals as goal

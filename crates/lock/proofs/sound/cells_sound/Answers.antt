@@ -1,17 +1,16 @@
--- `lock::sound::cells_sound` meets its contract: the loop's invariant says that the cells left decide; the measure is how many are left. Assumes nothing.
+-- `lock::sound::cells_sound` meets its contract: `all` tells of the pairs what `every` says of the row. Assumes nothing.
 use borrow.Author.Rules.{rules}
-use Rattle.rows.proofs.Rows.{row_long}
-use Rattle.rows.proofs.Testing.{testing_begins, testing_more, testing_stops, testing_ends}
+use mathlib.Core.Bool.{true, false}
+use mathlib.Core.Path.{◌≡◌}
+use Rattle.std.proofs.lemmas.Iterator.{cases_from_all, YieldsList-from_slice}
+use Rattle.std.proofs.lemmas.Iterator.Consumers.{YieldsList-from_enumerate}
+use Rattle.lock.specs.Sound.{cell_sound}
+use Rattle.lock.proofs.Paired.{every_told}
 use Rattle.lock.proofs.sound.cells_sound.Goals as goal
 
-pub loop-i-init : goal.loop-i-init
-loop-i-init c = testing_begins _ _ _ (search (rules, row_long))
-
-pub loop-i-preserved : goal.loop-i-preserved
-loop-i-preserved c = search testing_more
-
-pub returns-in-loop-i : goal.returns-in-loop-i
-returns-in-loop-i c = search testing_stops
-
 pub returns : goal.returns
-returns c = search testing_ends
+returns c =
+    let s = c.args.s in
+    every_told (cell_sound s.head) s.cells c.all.result
+    (cases_from_all _ _ _ (λ p. cell_sound s.head p.0 p.1 ≡ true) (λ p. cell_sound s.head p.0 p.1 ≡ false) c.all.ensures.ran
+    (YieldsList-from_enumerate (YieldsList-from_slice s.cells cc) (cc)) (λ x q k. search rules) (λ x q k. search rules))

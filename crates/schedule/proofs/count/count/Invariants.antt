@@ -1,11 +1,7 @@
 -- `schedule::count::count` meets its contract: each turn keeps what is left to count, and each way out is what the places from there on say. Assumes nothing.
-use Prim.Native.Nat.{◌-◌}
-use Rattle.schedule.specs.Limits as limit
+
 use Rattle.schedule.proofs.CountLoop.{Underway}
 use Rattle.schedule.proofs.count.count.Given as goal
 
 abbrev pub invariant-loop-k : goal.invariant-loop-k
 invariant-loop-k l = Underway l.kind l.file l.from l.at l.k
-
-abbrev pub decreases-loop-k : goal.decreases-loop-k
-decreases-loop-k l = limit.steps - l.k

@@ -5,8 +5,8 @@ use Rattle.schedule.proofs.front.front.Goals as goal
 pub returns-then-file-lt-LEAST : goal.returns-then-file-lt-LEAST
 returns-then-file-lt-LEAST c = search too_short
 
-pub returns-then-length-body : goal.returns-then-length-body
-returns-then-length-body c = search wrong_length_lem
+pub returns-then-from-body : goal.returns-then-from-body
+returns-then-from-body c = search wrong_length_lem
 
 pub returns-then-file-ne-VERSION : goal.returns-then-file-ne-VERSION
 returns-then-file-ne-VERSION c = search wrong_version
