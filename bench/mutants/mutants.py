@@ -56,8 +56,8 @@ def mask(text, side):
     }[side]
     text = blank(text, [m.span() for m in re.finditer(f"(?m){comment}|{skip}", text)])
     if side == "src":
-        # A clause may have a name before its braces, and go on over lines.
-        text = blank(text, list(braced(text, r"^[ ]*(?:requires|ensures)\b[^{\n]*\{")))
+        # A clause may have a name before its braces, and go on over lines; so may what a trait or an impl has for proofs alone.
+        text = blank(text, list(braced(text, r"^[ ]*(?:requires|ensures|ghost)\b[^{\n]*\{")))
     return text
 
 
@@ -176,7 +176,7 @@ def structs():
     """struct -> field -> type, over all crates."""
     found = {}
     for file in ROOT.glob("crates/*/src/*.rt"):
-        for name, fields in re.findall(r"pub struct (\w+) \{(.*?)\n\}", mask(file.read_text(), "src"), re.S):
+        for name, fields in re.findall(r"pub struct (\w+)(?:<\w+>)? \{(.*?)\n\}", mask(file.read_text(), "src"), re.S):
             found.setdefault(name, {}).update(re.findall(r"pub (\w+): ([^,\n]+)", fields))
     return found
 

@@ -5,10 +5,9 @@ ghost use Rattle.counting.specs.Sound.{sound};
 
 use super::entry::Entry;
 use super::state::State;
-use super::{entry, moves, sound, state};
+use super::{entry, sound, state};
 use machine::refusal::Refusal;
 use schedule::kinds::Kind;
-use schedule::read;
 use schedule::read::Spelled;
 use schedule::stepped::Stepped;
 use schedule::steps::{CountingStep, Step};
@@ -37,10 +36,12 @@ impl Stepped for State {
         }
     }
 
-    fn read(file: &[u8], at: usize) -> CountingStep {
-        read::step_at(file, at)
+    #[inline(always)]
+    fn tagged(tag: u8, numbers: &[u8]) -> CountingStep {
+        <CountingStep as Spelled>::tagged(tag, numbers)
     }
 
+    #[inline(always)]
     fn size(x: CountingStep) -> usize {
         x.size()
     }
@@ -49,24 +50,25 @@ impl Stepped for State {
         sound::is_sound(*self)
     }
 
+    #[inline(always)]
     fn apply(&mut self, x: CountingStep, log: &mut [u8], at: usize) -> Result<usize, Refusal> {
         match x {
             CountingStep::WriteableToReadable { t } => {
-                *self = moves::writeable_to_readable(*self, t)?;
+                self.writeable_to_readable(t)?;
                 Ok(at)
             }
             CountingStep::ReadableToWriteable => {
                 let t = self.t;
-                *self = moves::readable_to_writeable(*self)?;
+                self.readable_to_writeable()?;
                 Ok(entry::put_entry(log, at, Entry::Withdrawn { t }))
             }
             CountingStep::NewRef => {
                 let t = self.t;
-                *self = moves::new_ref(*self)?;
+                self.new_ref()?;
                 Ok(entry::put_entry(log, at, Entry::Granted { t }))
             }
             CountingStep::DeleteRef { t } => {
-                *self = moves::delete_ref(*self, t)?;
+                self.delete_ref(t)?;
                 Ok(at)
             }
         }

@@ -1,7 +1,8 @@
-// The four transitions on a state, which the step applied in place calls. Each makes its tests in the order of their codes and
-// answers the state after it, or why the first test that fails refuses it. A state whose counters the step can't move is not sound.
+// The four transitions, each written once, on a state in place: it makes its tests in the order of their codes and moves the state behind the last of them,
+// or answers why the first test that fails refuses it, and the state stays. A state whose counters the step can't move is not sound. Beside each stands
+// the same of a state by value, for callers who keep the one before.
 ghost use Rattle.std.specs.Prelude.{◌≡◌};
-ghost use Rattle.machine.specs.Move.{as_moved};
+ghost use Rattle.machine.specs.Move.{as_moved, in_place};
 ghost use Rattle.schedule.specs.declared.steps.CountingStep.TheVariants.{WriteableToReadable, ReadableToWriteable, NewRef, DeleteRef};
 ghost use Rattle.counting.specs.Moved.{moved};
 
@@ -9,68 +10,102 @@ use super::state::State;
 use machine::refusal::Refusal;
 use schedule::limits;
 
+impl State {
+    #[inline(always)]
+    pub(super) fn writeable_to_readable(&mut self, t: u32) -> Result<(), Refusal>
+        ensures { in_place result self.new ≡ moved self.old (WriteableToReadable t) }
+    {
+        if self.present {
+            return Err(Refusal::Phase);
+        }
+        self.t = t;
+        self.count = 0;
+        self.present = true;
+        Ok(())
+    }
+
+    #[inline(always)]
+    #[tactic(auto, using(std::proofs::lemmas::Bool::Decides::nat_tests))]
+    pub(super) fn readable_to_writeable(&mut self) -> Result<(), Refusal>
+        ensures { in_place result self.new ≡ moved self.old ReadableToWriteable }
+    {
+        if !self.present {
+            return Err(Refusal::Phase);
+        }
+        if self.count != 0 {
+            return Err(Refusal::Count);
+        }
+        self.t = 0;
+        self.present = false;
+        Ok(())
+    }
+
+    #[inline(always)]
+    #[tactic(auto, using(std::proofs::lemmas::Bool::Decides::nat_tests))]
+    pub(super) fn new_ref(&mut self) -> Result<(), Refusal>
+        ensures { in_place result self.new ≡ moved self.old NewRef }
+    {
+        if !self.present {
+            return Err(Refusal::Phase);
+        }
+        if limits::COUNTER <= self.count {
+            return Err(Refusal::Full);
+        }
+        if limits::COUNTER <= self.refs {
+            return Err(Refusal::Unsound);
+        }
+        self.count += 1;
+        self.refs += 1;
+        Ok(())
+    }
+
+    #[inline(always)]
+    #[tactic(auto, using(std::proofs::lemmas::Bool::Decides::nat_tests))]
+    pub(super) fn delete_ref(&mut self, t: u32) -> Result<(), Refusal>
+        ensures { in_place result self.new ≡ moved self.old (DeleteRef t) }
+    {
+        if !self.present {
+            return Err(Refusal::Phase);
+        }
+        let refs = self.refs.checked_sub(1).ok_or(Refusal::Missing)?;
+        if t != self.t {
+            return Err(Refusal::Missing);
+        }
+        let count = self.count.checked_sub(1).ok_or(Refusal::Unsound)?;
+        self.count = count;
+        self.refs = refs;
+        Ok(())
+    }
+}
+
 pub fn writeable_to_readable(s: State, t: u32) -> Result<State, Refusal>
     ensures { as_moved s result ≡ moved s (WriteableToReadable t) }
 {
-    if s.present {
-        return Err(Refusal::Phase);
-    }
-    Ok(State {
-        t,
-        count: 0,
-        present: true,
-        ..s
-    })
+    let mut moved = s;
+    moved.writeable_to_readable(t)?;
+    Ok(moved)
 }
 
-#[tactic(auto, using(std::proofs::lemmas::Bool::Decides::nat_tests))]
 pub fn readable_to_writeable(s: State) -> Result<State, Refusal>
     ensures { as_moved s result ≡ moved s ReadableToWriteable }
 {
-    if !s.present {
-        return Err(Refusal::Phase);
-    }
-    if s.count != 0 {
-        return Err(Refusal::Count);
-    }
-    Ok(State {
-        t: 0,
-        present: false,
-        ..s
-    })
+    let mut moved = s;
+    moved.readable_to_writeable()?;
+    Ok(moved)
 }
 
-#[tactic(auto, using(std::proofs::lemmas::Bool::Decides::nat_tests))]
 pub fn new_ref(s: State) -> Result<State, Refusal>
     ensures { as_moved s result ≡ moved s NewRef }
 {
-    if !s.present {
-        return Err(Refusal::Phase);
-    }
-    if limits::COUNTER <= s.count {
-        return Err(Refusal::Full);
-    }
-    if limits::COUNTER <= s.refs {
-        return Err(Refusal::Unsound);
-    }
-    Ok(State {
-        count: s.count + 1,
-        refs: s.refs + 1,
-        ..s
-    })
+    let mut moved = s;
+    moved.new_ref()?;
+    Ok(moved)
 }
 
-#[tactic(auto, using(std::proofs::lemmas::Bool::Decides::nat_tests))]
 pub fn delete_ref(s: State, t: u32) -> Result<State, Refusal>
     ensures { as_moved s result ≡ moved s (DeleteRef t) }
 {
-    if !s.present {
-        return Err(Refusal::Phase);
-    }
-    let refs = s.refs.checked_sub(1).ok_or(Refusal::Missing)?;
-    if t != s.t {
-        return Err(Refusal::Missing);
-    }
-    let count = s.count.checked_sub(1).ok_or(Refusal::Unsound)?;
-    Ok(State { count, refs, ..s })
+    let mut moved = s;
+    moved.delete_ref(t)?;
+    Ok(moved)
 }

@@ -10,10 +10,10 @@ use super::{entry, moves, sound, state};
 use machine::refusal::Refusal;
 use machine::within;
 use schedule::kinds::Kind;
+use schedule::limits;
 use schedule::read::Spelled;
 use schedule::stepped::Stepped;
 use schedule::steps::{FlagStep, Step};
-use schedule::{limits, read};
 
 impl Stepped for State {
     type Own = FlagStep;
@@ -39,10 +39,12 @@ impl Stepped for State {
         }
     }
 
-    fn read(file: &[u8], at: usize) -> FlagStep {
-        read::step_at(file, at)
+    #[inline(always)]
+    fn tagged(tag: u8, numbers: &[u8]) -> FlagStep {
+        <FlagStep as Spelled>::tagged(tag, numbers)
     }
 
+    #[inline(always)]
     fn size(x: FlagStep) -> usize {
         x.size()
     }
@@ -51,6 +53,7 @@ impl Stepped for State {
         sound::is_sound(*self)
     }
 
+    #[inline(always)]
     fn apply(&mut self, x: FlagStep, log: &mut [u8], at: usize) -> Result<usize, Refusal> {
         match x {
             FlagStep::Begin { k } => {

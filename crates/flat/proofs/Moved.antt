@@ -39,7 +39,7 @@ module _ (s : State) (safe : sound s ≡ true) where
   past j b = get_or-eq_default s.clients zero_client {n = j} (ltb-false j (length s.clients) b)
 
   -- an accepted client_recv has its response
-  client_recv_told : (j : ℕ) → first (recv_tests (client s j)) ≡ 0 → (client s j).told ≡ true
+  pub client_recv_told : (j : ℕ) → first (recv_tests (client s j)) ≡ 0 → (client s j).told ≡ true
   client_recv_told j z =
       let t = all_first (recv_tests (client s j)) refl z in
       on (ltb j (length s.clients))
@@ -47,7 +47,7 @@ module _ (s : State) (safe : sound s ≡ true) where
       (λ b. let w = rw (past j b) at t.0 in clash (cc))
 
   -- and an accepted combiner_recv its request: the client at the cursor is not with the combiner yet
-  combiner_recv_asked : first (slot_tests (client s s.len)) ≡ 0 → (client s s.len).asked ≡ true
+  pub combiner_recv_asked : first (slot_tests (client s s.len)) ≡ 0 → (client s s.len).asked ≡ true
   combiner_recv_asked z =
       let j = s.len in
       let t = all_first (slot_tests (client s j)) refl z in

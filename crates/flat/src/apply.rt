@@ -16,10 +16,10 @@ use super::{client, combiner, entry, sound, state};
 use machine::refusal::Refusal;
 use machine::within;
 use schedule::kinds::Kind;
+use schedule::limits;
 use schedule::read::Spelled;
 use schedule::stepped::Stepped;
 use schedule::steps::{FlatStep, Step};
-use schedule::{limits, read};
 
 impl Stepped for State {
     type Own = FlatStep;
@@ -45,10 +45,12 @@ impl Stepped for State {
         }
     }
 
-    fn read(file: &[u8], at: usize) -> FlatStep {
-        read::step_at(file, at)
+    #[inline(always)]
+    fn tagged(tag: u8, numbers: &[u8]) -> FlatStep {
+        <FlatStep as Spelled>::tagged(tag, numbers)
     }
 
+    #[inline(always)]
     fn size(x: FlatStep) -> usize {
         x.size()
     }
@@ -57,6 +59,7 @@ impl Stepped for State {
         sound::is_sound(*self)
     }
 
+    #[inline(always)]
     fn apply(&mut self, x: FlatStep, log: &mut [u8], at: usize) -> Result<usize, Refusal> {
         let mut next = at;
         match x {

@@ -8,7 +8,6 @@ use super::state::State;
 use super::{entry, sound, state};
 use machine::refusal::Refusal;
 use schedule::kinds::Kind;
-use schedule::read;
 use schedule::read::Spelled;
 use schedule::stepped::Stepped;
 use schedule::steps::{LockStep, Step};
@@ -37,12 +36,12 @@ impl Stepped for State {
         }
     }
 
-    #[inline]
-    fn read(file: &[u8], at: usize) -> LockStep {
-        read::step_at(file, at)
+    #[inline(always)]
+    fn tagged(tag: u8, numbers: &[u8]) -> LockStep {
+        <LockStep as Spelled>::tagged(tag, numbers)
     }
 
-    #[inline]
+    #[inline(always)]
     fn size(x: LockStep) -> usize {
         x.size()
     }
@@ -51,7 +50,7 @@ impl Stepped for State {
         sound::is_sound(*self)
     }
 
-    #[inline]
+    #[inline(always)]
     fn apply(&mut self, x: LockStep, log: &mut [u8], at: usize) -> Result<usize, Refusal> {
         match x {
             LockStep::ExcStart => {

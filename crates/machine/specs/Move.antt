@@ -4,7 +4,7 @@
 use Rattle.std.specs.Prelude.{Bool, cond, List, ℕ, eqb, Result, Ok, Err}
 use Rattle.machine.specs.Codes as code
 use Rattle.machine.specs.Check.{Check, first}
-use Rattle.machine.specs.Refusals.{number}
+use Rattle.machine.specs.Refusals.{number, verdict_code}
 use Rattle.machine.specs.declared.refusal.Refusal.{Refusal}
 
 abbrev pub move_code : List Check → Bool → ℕ
@@ -25,3 +25,7 @@ moving tests fits to from = record { to = move_to tests fits to from; code = mov
 abbrev pub as_moved : {A : Type 0} → A → Result A Refusal → Moved A
 as_moved s (Ok to) = record { to = to; code = code.accepted }
 as_moved s (Err why) = record { to = s; code = number why }
+
+-- the same of a function that moves a record in place, and leaves the record s'
+abbrev pub in_place : {A : Type 0} → Result (Unit {0}) Refusal → A → Moved A
+in_place r s' = record { to = s'; code = verdict_code r }

@@ -6,7 +6,7 @@ use native.Mathlib.Omega.{arith}
 use borrow.Author.Tests.{eqb-true, eqb-false}
 use denote.Param.Members.{Mut, Called}
 use lib.Dec.{eqb}
-use lib.ListN.{get_or}
+use lib.ListN.{get_or, length}
 use Rattle.std.specs.Array.{IsFromFnResult, IsFromFnResultFrom}
 use Rattle.std.specs.List.{range_with_len}
 use Rattle.std.proofs.lemmas.List.FromFn.{fill_by_all}
@@ -14,6 +14,10 @@ use Rattle.rows.proofs.Cases.{on}
 use Rattle.raw.specs.Raw.{row_from}
 
 module _ {A : Type 0} (entry : ℕ → A) where
+  pub length_row : (i n : ℕ) → length (row_from entry i n) ≡ n
+  length_row i zero = refl
+  length_row i (suc n) = omega (arith, length_row (i + 1) n)
+
   row_mapped : (i n : ℕ) → map entry (range_with_len i n) ≡ row_from entry i n
   row_mapped i zero = refl
   row_mapped i (suc n) = ap (λ es. entry i ∷ es) (row_mapped (i + 1) n)

@@ -12,12 +12,13 @@ use Rattle.machine.specs.Single.{Singled, told, bytes_logged}
 use Rattle.machine.specs.declared.refusal.Refusal.{Refusal}
 use Rattle.machine.proofs.Refusing.{number_nonzero}
 use Rattle.machine.proofs.Answering.{own_step, accepted, refused}
+use Rattle.machine.proofs.Fair.{Fair}
 use Rattle.schedule.specs.Limits as limit
 use Rattle.schedule.specs.Language.{step_at, size_of}
 use Rattle.schedule.specs.Running.{Runner}
 use Rattle.schedule.specs.Carries.{Carries, stepper_of}
 use Rattle.schedule.specs.declared.steps.Step.{Step}
-use Rattle.schedule.proofs.Running.{Runs, Out, stops, loud}
+use Rattle.schedule.proofs.Running.{Runs, Out, fair_stops, fair_loud}
 
 -- ---------- the single step
 
@@ -39,8 +40,12 @@ module _ (p : Runner) (o : Carries p) (f : List ℕ) (from n : ℕ) (q₀ : p.ma
     (g : Runs p o f from n q₀ log₀ used log q at k w) (h : k ≡ n → ⊥) (x : p.machine.Step) (r : x ≡ step_at p.language f at) where
   pub goes_on : (w' : ℕ) (q' : p.machine.State) (log' : List ℕ) → Accepts p.machine p.bytes q x log w w' q' log'
       → Runs p o f from n q₀ log₀ used log' q' (at + size_of p.language x) (k + 1) w'
-  goes_on w' q' log' a = loud p o f from n q₀ log₀ used log q at k w g h x r x refl a.passes q' a.state w' log' a.log
+  goes_on w' q' log' a =
+      let d : Fair p.machine q x 0 q' = record { own = sym a.passes; went = λ z. a.state; stayed = λ none. absurd (none refl) } in
+      fair_loud p o f from n q₀ log₀ used log q at k w g h x r x refl 0 q' d refl w' log' a.log
 
   pub stops_here : (why : Refusal) (q' : p.machine.State) (log' : List ℕ) → Refuses p.machine p.bytes q x log why q' log'
       → Out p o f from n q₀ log₀ used log q at k w g (number why)
-  stops_here why q' log' a = stops p o f from n q₀ log₀ used log q at k w g h x r x refl (number why) a.own (number_nonzero why)
+  stops_here why q' log' a =
+      let d : Fair p.machine q x (number why) q' = record { own = a.own; went = λ z. absurd (number_nonzero why z); stayed = λ none. a.state } in
+      fair_stops p o f from n q₀ log₀ used log q at k w g h x r x refl (number why) q' d (number_nonzero why)

@@ -33,7 +33,7 @@ module _ (kind : ℕ) (f : List ℕ) (at : ℕ) where
             let p : at + 1 + n ≤ length f = omega arith in
             rw (lt-leb _ _ inside, ← e, ne_eqb _ _ some, le-ltb _ _ p, eq-eqb _ _ (sym table ∙ o))
 
-        at_other : (m ≡ n → ⊥) → no_step ≡ measured_at kind f at
+        pub at_other : (m ≡ n → ⊥) → no_step ≡ measured_at kind f at
         unfolding measured_at
         at_other o =
             let p : at + 1 + n ≤ length f = omega arith in

@@ -12,7 +12,7 @@ use Rattle.rows.specs.Bytes.{number_at}
 use Rattle.rows.proofs.Cases.{on}
 use Rattle.rows.proofs.Bytes.{number_at_one, bytes_at_inside, bytes_at_outside}
 use Rattle.schedule.specs.Widths.{widths, widths_of, number_widths}
-use Rattle.schedule.specs.Language.{Language, numbers_at, step_at, tagged_at}
+use Rattle.schedule.specs.Language.{Language, numbers_at, step_at, tagged_at, spelled}
 
 -- a number at a place of what stands behind k bytes is the number at that place of the whole
 number_behind : (f : List ℕ) (k i w : ℕ) → k ≤ length f → number_at (drop k f) i w ≡ number_at f (k + i) w
@@ -66,3 +66,9 @@ module _ {S : Type 0} (l : Language S) (f : List ℕ) (at : ℕ) (x : S) where
 
     pub past_end : length f - 2 < at → x ≡ step_at l f at
     past_end h = past (omega arith)
+
+-- a tag and numbers that spell the step at a place spell it in every language of their kind
+pub spells : {S : Type 0} (l : Language S) (part f : List ℕ) (t at : ℕ) → tagged_at (spelled l.kind) part t 0 ≡ step_at (spelled l.kind) f at
+    → tagged_at l part t 0 ≡ step_at l f at
+unfolding step_at
+spells l part f t at e = ap (λ (p : ℕ × List ℕ). l.step p.0 p.1) e

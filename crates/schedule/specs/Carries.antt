@@ -1,9 +1,10 @@
 -- What the laws of a run ask of a machine and its language. Assumes nothing.
-use Rattle.std.specs.Prelude.{◌≡◌, ◌≤◌, Bool, true, length}
+use Rattle.std.specs.Prelude.{◌≡◌, ◌≤◌, ℕ, Bool, true, length, Result, Ok, Err}
 use Rattle.std.proofs.Math.Option.{Option}
 use Rattle.rows.specs.Walk.{pieces}
 use Rattle.machine.specs.Machine.{code_of}
 use Rattle.machine.specs.Single.{Stepper}
+use Rattle.machine.specs.declared.refusal.Refusal.{Refusal}
 use Rattle.schedule.specs.Limits as limit
 use Rattle.schedule.specs.Lawful.{Lawful}
 use Rattle.schedule.specs.Running.{Runner}
@@ -26,3 +27,13 @@ pub record Tells (p : Runner) (sound : p.machine.State → Bool) (s : p.machine.
 -- the single step of a machine, with its test and its steps among those of all kinds
 abbrev pub stepper_of : (p : Runner) → (Step → Option p.machine.Step) → (p.machine.State → Bool) → Stepper p.machine
 stepper_of p own sound = record { Any = Step; own = own; sound = sound; room = limit.entry; bytes = p.bytes }
+
+-- of what a turn of the replay answers, the size of its step and the place behind its entries: the place, or the refusal
+abbrev pub logged_at : Result (ℕ × ℕ) Refusal → Result ℕ Refusal
+logged_at (Ok t) = Ok t.1
+logged_at (Err why) = Err why
+
+-- and the size is n, where the step is accepted
+abbrev pub Sized : ℕ → Result (ℕ × ℕ) Refusal → Type 0
+Sized n (Ok t) = t.0 ≡ n
+Sized n (Err why) = Unit {0}

@@ -52,3 +52,7 @@ module _ {S : Type 0} (l : Language S) where
   -- the step's numbers fit the bytes that they take
   abbrev pub Writable : S → Type 0
   Writable x = Fit (number_widths l.kind (l.tag x)) (l.numbers x)
+
+-- the steps of a kind as they are spelled: a step is its tag and its numbers
+abbrev pub spelled : ℕ → Language (ℕ × List ℕ)
+spelled k = record { kind = k; tag = λ x. x.0; numbers = λ x. x.1; step = λ t ns. (t, ns) }

@@ -12,7 +12,7 @@ pub fn count(kind: u8, file: &[u8], from: usize) -> Result<usize, Fault>
     let row = lengths::row_of(kind);
     let mut at = from;
     for k in 0..limits::STEPS {
-        match lengths::step_in(row, file, at) {
+        match lengths::step_in(&row, file, at) {
             Ok(Some(next)) => at = next,
             Ok(None) => return Ok(k),
             Err(Broken) => return Err(Fault::Step { index: k }),

@@ -64,8 +64,8 @@ pub fn length_of(kind: u8, tag: u8) -> u8
 pub struct Broken;
 
 // The place after the step that stands at a place, or none where nothing more stands there, by the row of the file's kind.
-pub(super) fn step_in(row: [u8; TAGS], file: &[u8], at: usize) -> Result<Option<usize>, Broken>
-    ensures { (kind : ℕ) → RowOf kind row → result ≡ measured_at kind file.now at }
+pub(super) fn step_in(row: &[u8; TAGS], file: &[u8], at: usize) -> Result<Option<usize>, Broken>
+    ensures { (kind : ℕ) → RowOf kind row.now → result ≡ measured_at kind file.now at }
 {
     if file.len() <= at {
         return Ok(None);
@@ -93,5 +93,5 @@ pub(super) fn step_in(row: [u8; TAGS], file: &[u8], at: usize) -> Result<Option<
 pub fn measure(kind: u8, file: &[u8], at: usize) -> Result<Option<usize>, Broken>
     ensures { result ≡ measured_at kind file.now at }
 {
-    step_in(row_of(kind), file, at)
+    step_in(&row_of(kind), file, at)
 }

@@ -1,6 +1,6 @@
 // The step at a place of a file: of a known kind, or of the kind asked for with the place after it.
-ghost use Rattle.std.specs.Prelude.{◌≡◌};
-ghost use Rattle.schedule.specs.Language.{Language, step_at, size_of, tagged_at};
+ghost use Rattle.std.specs.Prelude.{◌≡◌, ℕ};
+ghost use Rattle.schedule.specs.Language.{Language, step_at, size_of, tagged_at, spelled};
 ghost use Rattle.schedule.specs.Spelling.{flat, lock, counting, flag};
 ghost use Rattle.schedule.specs.Finding.{any_at, found_at};
 
@@ -22,23 +22,35 @@ pub trait Spelled: Copy {
         ensures { result ≡ size_of language self };
 }
 
-// The step whose length byte stands at a place. Nothing is asked of the place; what was measured whole is read as it stands.
+// The tag behind the length byte at a place, and the bytes behind it; 0 and none where the file ends before. Whatever the kind, they spell the step that
+// stands there. Nothing is asked of the place.
+#[inline(always)]
+pub(super) fn tag_at(file: &[u8], at: usize) -> (u8, &[u8])
+    ensures { (kind : ℕ) → tagged_at (spelled kind) result.1.now result.0 0 ≡ step_at (spelled kind) file.now at }
+{
+    if file.len() < 2 {
+        return (0, &[]);
+    }
+    if file.len() - 2 < at {
+        return (0, &[]);
+    }
+    let p = at + 1;
+    (file[p], &file[p + 1..])
+}
+
+// The step whose length byte stands at a place. What was measured whole is read as it stands.
+#[inline(always)]
 pub fn step_at<S: Spelled>(file: &[u8], at: usize) -> S
     ensures { result ≡ step_at S.language file.now at }
 {
-    if file.len() < 2 {
-        return S::tagged(0, &[]);
-    }
-    if file.len() - 2 < at {
-        return S::tagged(0, &[]);
-    }
-    let p = at + 1;
-    S::tagged(file[p], &file[p + 1..])
+    let (tag, numbers) = tag_at(file, at);
+    S::tagged(tag, numbers)
 }
 
 impl Spelled for FlatStep {
     ghost language = { flat };
 
+    #[inline(always)]
     #[tactic(auto, unfolding(crate::specs::Widths::widths, crate::specs::Widths::widths_of))]
     fn tagged(tag: u8, numbers: &[u8]) -> FlatStep {
         match tag {
@@ -62,6 +74,7 @@ impl Spelled for FlatStep {
         }
     }
 
+    #[inline(always)]
     #[tactic(auto, unfolding(crate::specs::Widths::widths, crate::specs::Widths::widths_of))]
     fn size(self) -> usize {
         match self {
@@ -76,6 +89,7 @@ impl Spelled for FlatStep {
 impl Spelled for LockStep {
     ghost language = { lock };
 
+    #[inline(always)]
     #[tactic(auto, unfolding(crate::specs::Widths::widths, crate::specs::Widths::widths_of))]
     fn tagged(tag: u8, numbers: &[u8]) -> LockStep {
         match tag {
@@ -98,6 +112,7 @@ impl Spelled for LockStep {
         }
     }
 
+    #[inline(always)]
     #[tactic(auto, unfolding(crate::specs::Widths::widths, crate::specs::Widths::widths_of))]
     fn size(self) -> usize {
         match self {
@@ -113,6 +128,7 @@ impl Spelled for LockStep {
 impl Spelled for CountingStep {
     ghost language = { counting };
 
+    #[inline(always)]
     #[tactic(auto, unfolding(crate::specs::Widths::widths, crate::specs::Widths::widths_of))]
     fn tagged(tag: u8, numbers: &[u8]) -> CountingStep {
         match tag {
@@ -127,6 +143,7 @@ impl Spelled for CountingStep {
         }
     }
 
+    #[inline(always)]
     #[tactic(auto, unfolding(crate::specs::Widths::widths, crate::specs::Widths::widths_of))]
     fn size(self) -> usize {
         match self {
@@ -140,6 +157,7 @@ impl Spelled for CountingStep {
 impl Spelled for FlagStep {
     ghost language = { flag };
 
+    #[inline(always)]
     #[tactic(auto, unfolding(crate::specs::Widths::widths, crate::specs::Widths::widths_of))]
     fn tagged(tag: u8, numbers: &[u8]) -> FlagStep {
         match tag {
@@ -156,6 +174,7 @@ impl Spelled for FlagStep {
         }
     }
 
+    #[inline(always)]
     #[tactic(auto, unfolding(crate::specs::Widths::widths, crate::specs::Widths::widths_of))]
     fn size(self) -> usize {
         match self {

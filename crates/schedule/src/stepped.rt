@@ -6,16 +6,16 @@ ghost use Rattle.machine.specs.Apply.{InPlace};
 ghost use Rattle.machine.specs.Single.{Singled, told, bytes_logged};
 ghost use Rattle.machine.specs.Refusals.{verdict_code};
 ghost use Rattle.schedule.specs.declared.steps.Step as any_step;
-ghost use Rattle.schedule.specs.Language.{step_at, size_of};
+ghost use Rattle.schedule.specs.Language.{step_at, size_of, tagged_at};
 ghost use Rattle.schedule.specs.Running.{Runner, Runnable, Ended, Counts, left_by, rest_run, rest_tested};
 ghost use Rattle.schedule.specs.Answers.{Leaves};
 ghost use Rattle.schedule.specs.Kinds.{number};
-ghost use Rattle.schedule.specs.Carries.{Carries, Tells, stepper_of};
+ghost use Rattle.schedule.specs.Carries.{Carries, Tells, stepper_of, logged_at, Sized};
 
 use super::answer::Answer;
 use super::kinds::Kind;
 use super::steps::Step;
-use super::{answer, count, limits};
+use super::{answer, count, limits, read};
 use machine::refusal::Refusal;
 use machine::{refusal, single};
 
@@ -45,9 +45,17 @@ pub trait Stepped: Copy {
     fn own(x: Step) -> Option<Self::Own>
         ensures { MatchOption result (own_of x ≡ none) (λ y. own_of x ≡ some (step y)) };
 
+    // The step of a tag, from the bytes behind it.
+    fn tagged(tag: u8, numbers: &[u8]) -> Self::Own
+        ensures { step result ≡ tagged_at runner.language numbers.now tag 0 };
+
     // The step whose length byte stands at a place of a file.
     fn read(file: &[u8], at: usize) -> Self::Own
-        ensures { step result ≡ step_at runner.language file.now at };
+        ensures { step result ≡ step_at runner.language file.now at }
+    {
+        let (tag, numbers) = read::tag_at(file, at);
+        Self::tagged(tag, numbers)
+    }
 
     // How many bytes of a file a step takes, its length byte among them.
     fn size(x: Self::Own) -> usize
@@ -135,11 +143,11 @@ fn run<M: Stepped>(
                 verdict: Ok(()),
             };
         }
-        let x = M::read(file, at);
-        match s.apply(x, log, w) {
-            Ok(next) => {
+        let (tag, numbers) = read::tag_at(file, at);
+        match turn(s, tag, numbers, log, w) {
+            Ok((size, next)) => {
                 w = next;
-                at += M::size(x);
+                at += size;
                 k += 1;
             }
             Err(why) => {
@@ -151,6 +159,55 @@ fn run<M: Stepped>(
             }
         }
     }
+}
+
+// The step of a tag, from the bytes behind it, applied in place: its size, and the place behind its entries. Each tag has an arm of its own, in which it
+// is known: so the compiler tells the steps apart once, here, and not again where the step is applied and where its size is asked for. Groups of at most
+// three are told apart by tests, which cost less than a jump through a table.
+fn turn<M: Stepped>(
+    s: &mut M,
+    tag: u8,
+    numbers: &[u8],
+    log: &mut [u8],
+    at: usize,
+) -> Result<(usize, usize), Refusal>
+    ensures applied { M.sound (M.state s.old) ≡ true → InPlace M.runner.machine M.runner.bytes (M.state s.old) (tagged_at M.runner.language numbers.now tag 0) log.old at (logged_at result) (M.state s.new) log.new }
+    ensures sized { Sized (size_of M.runner.language (tagged_at M.runner.language numbers.now tag 0)) result }
+{
+    if tag < 4 {
+        return match tag {
+            1 => applied(s, M::tagged(1, numbers), log, at),
+            2 => applied(s, M::tagged(2, numbers), log, at),
+            3 => applied(s, M::tagged(3, numbers), log, at),
+            _ => applied(s, M::tagged(tag, numbers), log, at),
+        };
+    }
+    if tag < 7 {
+        return match tag {
+            4 => applied(s, M::tagged(4, numbers), log, at),
+            5 => applied(s, M::tagged(5, numbers), log, at),
+            _ => applied(s, M::tagged(tag, numbers), log, at),
+        };
+    }
+    match tag {
+        7 => applied(s, M::tagged(7, numbers), log, at),
+        _ => applied(s, M::tagged(tag, numbers), log, at),
+    }
+}
+
+// A step applied in place: its size, and the place behind its entries.
+#[inline(always)]
+fn applied<M: Stepped>(
+    s: &mut M,
+    x: M::Own,
+    log: &mut [u8],
+    at: usize,
+) -> Result<(usize, usize), Refusal>
+    ensures applied { M.sound (M.state s.old) ≡ true → InPlace M.runner.machine M.runner.bytes (M.state s.old) (M.step x) log.old at (logged_at result) (M.state s.new) log.new }
+    ensures sized { Sized (size_of M.runner.language (M.step x)) result }
+{
+    let next = s.apply(x, log, at)?;
+    Ok((M::size(x), next))
 }
 
 // The rest of a file from a place on, replayed from any state: one that is not sound is 10, then its steps are counted and the room is tested.

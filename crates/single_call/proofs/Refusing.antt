@@ -1,4 +1,4 @@
--- What the promise says of refusals: the state keeps every byte; an empty step is malformed. Assumes nothing.
+-- What the promise says of refusals: the state keeps every byte; an empty step is malformed, and so is one on a state of another length. Assumes nothing.
 use mathlib.Core.Path.{◌≡◌, refl}
 use mathlib.Core.Bool.{Bool, true, false, cond}
 use mathlib.Core.List.{List, []}
@@ -11,8 +11,10 @@ use Rattle.schedule.specs.Widths as kinds
 use Rattle.schedule.specs.Reading.{measured_at}
 use Rattle.schedule.specs.Finding.{found_at}
 use Rattle.schedule.specs.declared.steps.Step.{Step}
-use Rattle.std.specs.Prelude.{Option, Some, None}
-use Rattle.single_call.specs.Call.{asked_by, Stepped, unchanged, Outcome, RawStepper, stepped_as, stepped, flat_raw, lock_raw, counting_raw, flag_raw, stepped_by}
+use Rattle.std.specs.Prelude.{Option, Some, None, Result, Err}
+use Rattle.machine.specs.declared.refusal.Refusal.{Refusal}
+use Rattle.machine.specs.declared.refusal.Refusal.TheVariants.{Malformed}
+use Rattle.single_call.specs.Call.{asked_by, called, StepLeaves, Stepped, unchanged, Outcome, RawStepper, stepped_as, stepped, flat_raw, lock_raw, counting_raw, flag_raw, stepped_by}
 
 -- a refusal keeps the state
 pub record Keeps (raw : List ℕ) (o : Stepped) : Type 0 where
@@ -35,6 +37,11 @@ module _ {S X : Type 0} (w : RawStepper S X) (raw : List ℕ) where
   step_keeps x log =
       either_keeps (eqb (length raw) w.long) raw (stepped_as w raw (w.single (w.from raw) x log)) (unchanged code.malformed raw)
       (answer_keeps (w.single (w.from raw) x log)) (malformed_keeps raw)
+
+  -- a state of another length
+  pub wrong_length_lem : (x : X) (log : List ℕ) (r : Result ℕ Refusal) → (length raw ≡ w.long → ⊥) → r ≡ Err Malformed
+      → StepLeaves (stepped w raw x log) log (called r) raw log
+  wrong_length_lem x log r h e = rw (ne_eqb (length raw) w.long h, e) (record { answer = refl; state = refl; entry = refl })
 
 -- so a refused call keeps every byte of the state
 pub call_keeps : (kind : ℕ) (raw : List ℕ) (q : Option Step) (log : List ℕ) → Keeps raw (stepped_by kind raw q log)

@@ -3,12 +3,12 @@ use mathlib.Core.Path.{refl}
 use Rattle.counting.proofs.Stepping.{silent_step}
 use Rattle.counting.proofs.apply.StateStepped.apply.Goals as goal
 
-pub returns-in_ok-self-in-WriteableToReadable : goal.returns-in_ok-self-in-WriteableToReadable
-returns-in_ok-self-in-WriteableToReadable c =
+pub returns-in_ok-writeable_to_readable-in-WriteableToReadable : goal.returns-in_ok-writeable_to_readable-in-WriteableToReadable
+returns-in_ok-writeable_to_readable-in-WriteableToReadable c =
     let a = c.args in
-    silent_step a.self.now a.x _ a.log.now _ c.in_ok-self-in-WriteableToReadable.ensures c.in-WriteableToReadable.is refl a.at
+    silent_step a.self.now a.x _ a.log.now _ c.in_ok-writeable_to_readable-in-WriteableToReadable.ensures c.in-WriteableToReadable.is refl a.at
 
-pub returns-in_ok-self-in-DeleteRef : goal.returns-in_ok-self-in-DeleteRef
-returns-in_ok-self-in-DeleteRef c =
+pub returns-in_ok-delete_ref-in-DeleteRef : goal.returns-in_ok-delete_ref-in-DeleteRef
+returns-in_ok-delete_ref-in-DeleteRef c =
     let a = c.args in
-    silent_step a.self.now a.x _ a.log.now _ c.in_ok-self-in-DeleteRef.ensures c.in-DeleteRef.is refl a.at
+    silent_step a.self.now a.x _ a.log.now _ c.in_ok-delete_ref-in-DeleteRef.ensures c.in-DeleteRef.is refl a.at
